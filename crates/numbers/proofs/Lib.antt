@@ -1,0 +1,3 @@
+mod Codes
+pub mod Standing
+pub mod Puts
