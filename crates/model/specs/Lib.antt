@@ -1,0 +1,10 @@
+pub mod Program
+pub mod Orders
+pub mod Axioms
+pub mod Naming
+pub mod Verdicts
+pub mod Trace
+pub mod Machine
+pub mod Schedule
+pub mod Theorems
+pub mod Text
