@@ -1,0 +1,10 @@
+pub mod Arrays
+pub mod Writes
+pub mod Scans
+pub mod Checks
+pub mod StoredWords
+pub mod Sweeps
+pub mod Blanks
+pub mod Steps
+pub mod Cuts
+pub mod WholeRuns
