@@ -1,0 +1,12 @@
+pub mod Locating
+pub mod Beyond
+pub mod Scans
+pub mod Wording
+pub mod Listing
+pub mod Choosing
+pub mod Testing
+pub mod Lowest
+pub mod Deciding
+pub mod Asking
+pub mod Tracing
+pub mod Passings

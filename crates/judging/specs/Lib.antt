@@ -1,0 +1,11 @@
+pub mod Standings
+pub mod Searches
+pub mod Tests
+pub mod Sources
+pub mod Words
+pub mod Case
+pub mod Values
+pub mod Namings
+pub mod Asks
+pub mod Traces
+pub mod Outcomes
