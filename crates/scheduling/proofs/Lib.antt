@@ -1,0 +1,3 @@
+mod Needing
+mod Making
+mod Answering
