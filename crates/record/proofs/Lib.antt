@@ -1,0 +1,10 @@
+pub mod Sole
+pub mod Claims
+pub mod Says
+pub mod Pieces
+pub mod Parts
+pub mod EntryTests
+pub mod Runs
+pub mod Keeping
+pub mod Fits
+pub mod Events
