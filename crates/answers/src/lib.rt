@@ -1,4 +1,6 @@
 //! From a record's bytes to the answer that is printed.
+#![tactic(auto)]
+
 mod telling;
 mod text;
 

@@ -1,4 +1,6 @@
 // Answers each record file that is named on the command line, under the file's name.
+#![tactic(auto)]
+
 use record::LONGEST;
 use std::fs::File;
 use std::io::Read;

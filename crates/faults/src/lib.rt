@@ -1,4 +1,6 @@
 //! What is refused: one fault type for every layer, with its number, layer and place.
+#![tactic(auto)]
+
 ghost use Rattle.std.specs.Prelude.{◌≡◌, Some};
 ghost use Rattle.faults.specs.Faults.{number_of, layer_of, place_of};
 ghost use Rattle.faults.specs.Text.{layer_text, fault_text};

@@ -1,4 +1,6 @@
 // Judges the record on standard input, and prints the answer.
+#![tactic(auto)]
+
 use answers::answer;
 use record::LONGEST;
 use std::io::Read;

@@ -1,5 +1,7 @@
 //! The judge: which axiom an order breaks; and in one that passes, the write that each read should have and where its word
 //! comes from.
+#![tactic(auto)]
+
 mod events;
 pub mod judge;
 mod naming;

@@ -1,4 +1,6 @@
 //! The machine: closing a draft, issue, drain, finish, and whole runs.
+#![tactic(auto)]
+
 pub mod ended;
 mod inner;
 pub mod machine;

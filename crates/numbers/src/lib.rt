@@ -1,4 +1,6 @@
 //! Numbers of 32 bits in groups of seven, lowest first, in the fewest bytes.
+#![tactic(auto)]
+
 mod reading;
 mod writing;
 

@@ -1,4 +1,6 @@
 //! Records: rule, tables, claims and memory order as bytes.
+#![tactic(auto)]
+
 mod entries;
 mod order;
 mod sections;

@@ -1,4 +1,6 @@
 //! Lines, events, and the tables of a unit's processors.
+#![tactic(auto)]
+
 pub mod draft;
 pub mod event;
 pub mod line;

@@ -1,4 +1,6 @@
 //! Runs that no record can put to the judge: origin words, sheets of other sizes, questions about single reads.
+#![tactic(auto)]
+
 #[cfg(test)]
 mod tests {
     use faults::Fault;

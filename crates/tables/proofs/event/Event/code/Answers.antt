@@ -6,7 +6,7 @@ use Rattle.tables.proofs.event.Event.code.Goals as goal
 
 value_is :
     (c : goal.After-bit)
-    → (c.saturating-sub-table.result * 32 + c.saturating-sub-row.result) * 2 + c.bit.result ≡ code_of unit c.args.self
+    → (c.saturating_sub-table.result * 32 + c.saturating_sub-row.result) * 2 + c.bit.result ≡ code_of unit c.args.self
 unfolding number
 value_is c = omega (arith, c.bit.ensures)
 

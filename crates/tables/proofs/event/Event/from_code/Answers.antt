@@ -22,5 +22,5 @@ named c s h e =
 pub returns : goal.returns
 unfolding places
 returns c =
-    let n = named c.args.code c.of-code.result (omega arith) c.of-code.ensures in
+    let n = named c.args.code c.of_code.result (omega arith) c.of_code.ensures in
     record { value = n.0; back = n.1 }

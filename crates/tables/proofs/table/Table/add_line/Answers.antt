@@ -5,15 +5,15 @@ use Rattle.tables.specs.Lines.{CellsFit, CopiesFit, BarriersWithin, BarriersRise
 use Rattle.tables.proofs.Pushes.{cells_push, copies_push, within_push, rising_push}
 use Rattle.tables.proofs.table.Table.add_line.Goals as goal
 
-pub invariant-of-self : goal.invariant-of-self
-invariant-of-self c =
+pub invariant_of-self : goal.invariant_of-self
+invariant_of-self c =
     let t = c.args.self.now in
     let ls = vec_items t.lines in
     let x : Line = record { access = c.args.access; cell = c.args.cell; barrier = t.barriers } in
-    let e = sym c.push-reserved.ensures.items in (
-      omega (arith, t.room, c.push-reserved.ensures.capacity),
+    let e = sym c.push_reserved.ensures.items in (
+      omega (arith, t.room, c.push_reserved.ensures.capacity),
       (
-        let q = length_push ls x in let r = ap length c.push-reserved.ensures.items in omega (arith, q, r),
+        let q = length_push ls x in let r = ap length c.push_reserved.ensures.items in omega (arith, q, r),
         (
           t.bounded,
           (

@@ -3,8 +3,8 @@ use Rattle.tables.specs.Lines.{CellsFit, CopiesFit, BarriersWithin, BarriersRise
 use Rattle.tables.proofs.Shorts.{first_few, cells_first, copies_first, within_first, rising_first}
 use Rattle.tables.proofs.table.Table.shorten.Goals as goal
 
-pub invariant-of-self : goal.invariant-of-self
-invariant-of-self c =
+pub invariant_of-self : goal.invariant_of-self
+invariant_of-self c =
     let t = c.args.self.now in
     let ls = vec_items t.lines in
     let k = c.args.count in

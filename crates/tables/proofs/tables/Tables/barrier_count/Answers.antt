@@ -11,5 +11,5 @@ returns-then-table-ge-PROCESSORS c =
 pub returns : goal.returns
 returns c =
     let t = c.args.self.now in
-    c.barrier-count.ensures
+    c.barrier_count.ensures
     ∙ sym (ap (λ (s : Rows). s.barriers) (rows_at (vec_items t.rows) c.args.table c.index.result.now (omega (arith, t.four, t.rows.ok.0)) c.index.ensures))

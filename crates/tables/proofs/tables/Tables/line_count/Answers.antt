@@ -11,5 +11,5 @@ returns-then-table-ge-PROCESSORS c =
 pub returns : goal.returns
 returns c =
     let t = c.args.self.now in
-    c.line-count.ensures
+    c.line_count.ensures
     ∙ sym (ap (λ (s : Rows). length s.lines) (rows_at (vec_items t.rows) c.args.table c.index.result.now (omega (arith, t.four, t.rows.ok.0)) c.index.ensures))

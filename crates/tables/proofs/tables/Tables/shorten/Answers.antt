@@ -9,8 +9,8 @@ use Rattle.tables.proofs.tables.Tables.shorten.Goals as goal
 pub returns-then-table-lt-PROCESSORS : goal.returns-then-table-lt-PROCESSORS
 returns-then-table-lt-PROCESSORS c =
     let t = c.args.self.now in
-    one_shorter (vec_items t.rows) c.args.table c.args.count c.index-mut.result.now c.shorten.new.self
-    (omega (arith, t.four, t.rows.ok.0)) c.index-mut.ensures.value c.shorten.ensures
+    one_shorter (vec_items t.rows) c.args.table c.args.count c.index_mut.result.now c.shorten.new.self
+    (omega (arith, t.four, t.rows.ok.0)) c.index_mut.ensures.value c.shorten.ensures
 
 pub returns-else-table-lt-PROCESSORS : goal.returns-else-table-lt-PROCESSORS
 returns-else-table-lt-PROCESSORS c =
