@@ -78,12 +78,21 @@ module _ (ts : List Rows) (w : Waits) (o : List ℕ) where
         }
 
 -- what the ghost fields of a passing order hold together
-abbrev pub Invariant : List Rows → List ℕ → Type 0
-Invariant ts o =
-    (length o < 2 ^ 64)
-    × (AllBelow (is_event unit ts) o (length o)
-    × (ReadsOnce unit ts o × (WritesOnce unit ts o × (WritesStand unit ts o × (ReadsLead unit ts o × Unit {0})))))
+pub record Invariant (ts : List Rows) (o : List ℕ) : Type 0 where
+  pub short : length o < 2 ^ 64
+  pub listed : AllBelow (is_event unit ts) o (length o)
+  pub reads : ReadsOnce unit ts o
+  pub writes : WritesOnce unit ts o
+  pub stands : WritesStand unit ts o
+  pub leads : ReadsLead unit ts o
 
 pub invariant : (ts : List Rows) (o o' : List ℕ) → o' ≡ o → length o < 2 ^ 64 → Settled unit ts o → ReadsLead unit ts o → Invariant ts o'
 invariant ts o o' e l s d =
-    subst (λ (x : List ℕ). Invariant ts x) (sym e) (l, (s.listed, (s.reads_once, (s.writes_once, (s.writes_stand, (d, tt))))))
+    subst (λ (x : List ℕ). Invariant ts x) (sym e) (record {
+      short = l;
+      listed = s.listed;
+      reads = s.reads_once;
+      writes = s.writes_once;
+      stands = s.writes_stand;
+      leads = d;
+    })

@@ -24,7 +24,7 @@ fn make<R: WaitRule, K: WordKind>(
     sheet: &mut Sheet<K::Word>,
     call: Call,
 )
-    ensures after { run_of machine.new (map meaning sheet.new.places.now) ≡ step (program_of waits machine.old) (stored_at (record { start = starts; written = writtens }) unit (lines_of machine.old)) starts call (run_of machine.old (map meaning sheet.old.places.now)) }
+    ensures after { run_of machine.new (map K.WordKind.meaning sheet.new.places.now) ≡ step (program_of R.WaitRule.waits machine.old) (stored_at (record { start = K.WordKind.starts; written = K.WordKind.writtens }) unit (lines_of machine.old)) K.WordKind.starts call (run_of machine.old (map K.WordKind.meaning sheet.old.places.now)) }
     ensures tables { lines_of machine.new ≡ lines_of machine.old }
     ensures named { sheet.new.places.ghost_name ≡ sheet.old.places.ghost_name }
 {
@@ -43,7 +43,7 @@ pub fn play<R: WaitRule, K: WordKind>(
     sheet: &mut Sheet<K::Word>,
     calls: &[Call],
 ) -> Ended
-    ensures played { Played waits (record { start = starts; written = writtens }) (contents draft.tables) calls.now (map meaning sheet.old.places.now) result (map meaning sheet.new.places.now) }
+    ensures played { Played R.WaitRule.waits (record { start = K.WordKind.starts; written = K.WordKind.writtens }) (contents draft.tables) calls.now (map K.WordKind.meaning sheet.old.places.now) result (map K.WordKind.meaning sheet.new.places.now) }
     ensures named { sheet.new.places.ghost_name ≡ sheet.old.places.ghost_name }
 {
     let mut machine = Machine::close(draft);

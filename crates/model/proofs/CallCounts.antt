@@ -107,10 +107,10 @@ module _ (P : Program) (L : Lawful P) (s : State) (n : ℕ) (I : Inv P s) where
 
     pub drain_made : made P s₂ ≡ suc (made P s)
     drain_made =
-        let h = I.held_of n C.is_held_lem in
+        let h = I.held_of n C.is_held in
         let w = and_from (P.writes n) (is_issued P s.issued n) h.0 (lt-ltb (row P.size n) (s.issued (table P.size n)) h.1) in
         let a = tally_more (counts_drained P s) (counts_drained P s₂) (places P.size) n (L.writes_in n h.0)
-        (and_right (P.writes n && is_issued P s.issued n) (not (s.held n)) (ap not C.is_held_lem))
+        (and_right (P.writes n && is_issued P s.issued n) (not (s.held n)) (ap not C.is_held))
         (and_from (P.writes n && is_issued P s.issued n) (not (s₂.held n)) w (ap not gone))
         (λ m d. ap (λ (b : Bool). (P.writes m && is_issued P s.issued m) && not b) (other_kept m d)) in
         omega arith

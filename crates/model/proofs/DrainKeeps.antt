@@ -15,11 +15,11 @@ module _ (P : Program) (s : State) (n : ℕ) (I : Inv P s) (C : CanDrain P s n) 
   s' = after_drain s n (P.cell n)
 
   is : (P.writes n ≡ true) × Issued P s n
-  is = I.held_of n C.is_held_lem
+  is = I.held_of n C.is_held
 
   no_write : place s.order (wr n) ≡ length s.order
   no_write = elim (cases_lt (place s.order (wr n)) (length s.order)) [
-    | inl l ↦ let z : ⊥ = both_ways (s.held n) (I.wr_of n l).2 C.is_held_lem in absurd z
+    | inl l ↦ let z : ⊥ = both_ways (s.held n) (I.wr_of n l).2 C.is_held in absurd z
     | inr l ↦ let p = place_le s.order (wr n) in omega arith
   ]
 

@@ -22,7 +22,7 @@ module _ {M : Type 0} (P : Program) (L : Lawful P) (stored : (ℕ → M) → ℕ
 
   half_can : (s : State) (I : Inv P s) (j : ℕ) → s.half ≡ Some j → CanDrain P s j
   half_can s I j e =
-      let a = I.half_of_lem j e in
+      let a = I.half_of j e in
       let b = I.held_of j a.1 in
       record {
         is_held = a.1;

@@ -84,7 +84,7 @@ module _ {M : Type 0} (P : Program) (L : Lawful P) (stored : (ℕ → M) → ℕ
         → r.state.half ≡ Some j → j ≡ n
     half_own n j w pl h =
         let I = a.holds.inv in
-        let x = I.half_of_lem j h in
+        let x = I.half_of j h in
         let y = I.held_of j x.1 in
         let u = held_later j x.1 in
         let v = read_sooner j x.0 y.1 in
@@ -327,7 +327,7 @@ module _ {M : Type 0} (P : Program) (L : Lawful P) (stored : (ℕ → M) → ℕ
           whole : P.writes n ≡ true → (h : Option ℕ) → r.state.half ≡ h → h ≡ None
           whole w None q = refl
           whole w (Some j) q =
-              let x = I.half_of_lem j q in
+              let x = I.half_of j q in
               let v = I.held_of j x.1 in
               let u = held_later (rd n ∷ rest) f r a j x.1 in
               let t = read_sooner (rd n ∷ rest) f r a j x.0 v.1 in

@@ -20,8 +20,8 @@ impl Machine {
         processor: u32,
     ) -> Result<(usize, Line), Fault>
         ensures { MatchResult result
-            (λ t. Issuable waits self.now room processor t.0 t.1)
-            (λ e. issue_refusal (program_of waits self.now) (state_of self.now) room processor ≡ Some e) }
+            (λ t. Issuable R.WaitRule.waits self.now room processor t.0 t.1)
+            (λ e. issue_refusal (program_of R.WaitRule.waits self.now) (state_of self.now) room processor ≡ Some e) }
     {
         if processor < 1 || processor as usize > PROCESSORS {
             return Err(Fault::ProcessorUnknown);
@@ -62,8 +62,8 @@ impl Machine {
         line: u32,
     ) -> Result<usize, Fault>
         ensures { MatchResult result
-            (λ n. Drainable waits self.now processor line n)
-            (λ e. drain_refusal (program_of waits self.now) (state_of self.now) processor line ≡ Some e) }
+            (λ n. Drainable R.WaitRule.waits self.now processor line n)
+            (λ e. drain_refusal (program_of R.WaitRule.waits self.now) (state_of self.now) processor line ≡ Some e) }
     {
         if processor < 1 || processor as usize > PROCESSORS {
             return Err(Fault::ProcessorUnknown);

@@ -21,8 +21,8 @@ impl Machine {
         processor: u32,
     ) -> Result<(), Fault>
         ensures answer { MatchResult result
-            (λ _. Issued waits (record { start = starts; written = writtens }) self.old (map meaning sheet.old.places.now) (length sheet.old.places.now) processor self.new (map meaning sheet.new.places.now))
-            (λ e. (issue_refusal (program_of waits self.old) (state_of self.old) (length sheet.old.places.now) processor ≡ Some e)
+            (λ _. Issued R.WaitRule.waits (record { start = K.WordKind.starts; written = K.WordKind.writtens }) self.old (map K.WordKind.meaning sheet.old.places.now) (length sheet.old.places.now) processor self.new (map K.WordKind.meaning sheet.new.places.now))
+            (λ e. (issue_refusal (program_of R.WaitRule.waits self.old) (state_of self.old) (length sheet.old.places.now) processor ≡ Some e)
             × (self.new ≡ self.old) × (sheet.new.places.now ≡ sheet.old.places.now)) }
         ensures tables { lines_of self.new ≡ lines_of self.old }
         ensures named { sheet.new.places.ghost_name ≡ sheet.old.places.ghost_name }
@@ -36,8 +36,8 @@ impl Machine {
     /// Moves a held write to the end of the order and makes it its cell's last. Or refuses, and leaves the machine as it was.
     pub fn drain<R: WaitRule>(&mut self, rule: &R, processor: u32, line: u32) -> Result<(), Fault>
         ensures answer { MatchResult result
-            (λ _. Drained waits self.old processor line self.new)
-            (λ e. (drain_refusal (program_of waits self.old) (state_of self.old) processor line ≡ Some e) × (self.new ≡ self.old)) }
+            (λ _. Drained R.WaitRule.waits self.old processor line self.new)
+            (λ e. (drain_refusal (program_of R.WaitRule.waits self.old) (state_of self.old) processor line ≡ Some e) × (self.new ≡ self.old)) }
         ensures tables { lines_of self.new ≡ lines_of self.old }
     {
         let n = self.may_drain(rule, processor, line)?;

@@ -14,7 +14,7 @@ impl Machine {
     // Whether an earlier line of the table is held and must be waited for.
     fn is_stopped<R: WaitRule>(&self, rule: &R, m: usize, n: usize) -> bool
         requires { (m < n) × ((n < 128) × (m / 32 ≡ n / 32)) }
-        ensures { result ≡ stops (program_of waits self.now) (state_of self.now) n m }
+        ensures { result ≡ stops (program_of R.WaitRule.waits self.now) (state_of self.now) n m }
     {
         if !self.holds(m) {
             return false;
@@ -28,7 +28,7 @@ impl Machine {
     // The lowest held line that a line must wait for.
     pub(super) fn lowest_stop<R: WaitRule>(&self, rule: &R, n: usize) -> Option<usize>
         requires { n < 128 }
-        ensures { result ≡ blocker (program_of waits self.now) (state_of self.now) n }
+        ensures { result ≡ blocker (program_of R.WaitRule.waits self.now) (state_of self.now) n }
     {
         for m in n - n % LINES..n {
             if self.is_stopped(rule, m, n) {

@@ -31,7 +31,7 @@ impl Machine {
     // The word that line m writes, with those on the sheet.
     fn stored<K: WordKind>(&self, kind: &K, sheet: &mut Sheet<K::Word>, m: usize) -> K::Word
         requires { m < 128 }
-        ensures value { meaning result ≡ stored_at (record { start = starts; written = writtens }) unit (lines_of self.now) (words_on starts (map meaning sheet.old.places.now)) m }
+        ensures value { K.WordKind.meaning result ≡ stored_at (record { start = K.WordKind.starts; written = K.WordKind.writtens }) unit (lines_of self.now) (words_on K.WordKind.starts (map K.WordKind.meaning sheet.old.places.now)) m }
         ensures same { sheet.new.places.now ≡ sheet.old.places.now }
         ensures named { sheet.new.places.ghost_name ≡ sheet.old.places.ghost_name }
     {
@@ -60,7 +60,7 @@ impl Machine {
         from: Option<usize>,
     ) -> K::Word
         requires { (m : ℕ) → from ≡ Some m → m < 128 }
-        ensures value { meaning result ≡ worth (stored_at (record { start = starts; written = writtens }) unit (lines_of self.now)) starts (words_on starts (map meaning sheet.old.places.now)) cell from }
+        ensures value { K.WordKind.meaning result ≡ worth (stored_at (record { start = K.WordKind.starts; written = K.WordKind.writtens }) unit (lines_of self.now)) K.WordKind.starts (words_on K.WordKind.starts (map K.WordKind.meaning sheet.old.places.now)) cell from }
         ensures same { sheet.new.places.now ≡ sheet.old.places.now }
         ensures named { sheet.new.places.ghost_name ≡ sheet.old.places.ghost_name }
     {
@@ -80,7 +80,7 @@ impl Machine {
     )
         requires within { n < 128 }
         requires own { Some line ≡ line_at unit (lines_of self.now) n }
-        ensures after { map meaning sheet.new.places.now ≡ issue_sheet (program_of (λ _ _. false) self.now) (stored_at (record { start = starts; written = writtens }) unit (lines_of self.now)) starts (state_of self.now) (map meaning sheet.old.places.now) n }
+        ensures after { map K.WordKind.meaning sheet.new.places.now ≡ issue_sheet (program_of (λ _ _. false) self.now) (stored_at (record { start = K.WordKind.starts; written = K.WordKind.writtens }) unit (lines_of self.now)) K.WordKind.starts (state_of self.now) (map K.WordKind.meaning sheet.old.places.now) n }
         ensures named { sheet.new.places.ghost_name ≡ sheet.old.places.ghost_name }
     {
         if line.access.kind().reads() {

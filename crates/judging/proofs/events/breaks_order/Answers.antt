@@ -2,18 +2,18 @@ use Rattle.std.proofs.Common.{arith}
 use Rattle.std.proofs.lemmas.Bool.Decides.{nat_tests}
 use Rattle.judging.specs.Tests.{order_bad}
 use Rattle.judging.proofs.events.breaks_order.Goals as goal
-use Rattle.judging.proofs.events.breaks_order.Goals.{then-is-read, else-is-read}
+use Rattle.judging.proofs.events.breaks_order.Goals.{then-is_read, else-is_read}
 
 pub returns-then-times-ne1 : goal.returns-then-times-ne1
 unfolding order_bad
 returns-then-times-ne1 c = let k = c.args.standing.now.counted c.args.e c.requires in grind (arith, nat_tests)
 
-pub returns-then-is-write : goal.returns-then-is-write
+pub returns-then-is_write : goal.returns-then-is_write
 unfolding order_bad
-returns-then-is-write c =
+returns-then-is_write c =
     let k = c.args.standing.now.counted c.args.e c.requires in
-    elim c.if-is-read.branch [ then-is-read w ↦ grind (arith, nat_tests) | else-is-read w ↦ grind (arith, nat_tests) ]
+    elim c.if-is_read.branch [ then-is_read w ↦ grind (arith, nat_tests) | else-is_read w ↦ grind (arith, nat_tests) ]
 
-pub returns-else-is-write : goal.returns-else-is-write
+pub returns-else-is_write : goal.returns-else-is_write
 unfolding order_bad
-returns-else-is-write c = let k = c.args.standing.now.counted c.args.e c.requires in grind (arith, nat_tests)
+returns-else-is_write c = let k = c.args.standing.now.counted c.args.e c.requires in grind (arith, nat_tests)

@@ -39,13 +39,13 @@ returns-in-Some g c =
 
 pub of-standing-requires : goal.of-standing-requires
 of-standing-requires g c = λ i h.
-    let t = c.args.tables.now in event_low (contents t) (good t).tables (get_or c.args.order.now i 0) (c.in-default.ensures i h)
+    let t = c.args.tables.now in event_low (contents t) (good t).tables (get_or c.args.order.now i 0) (c.in_default.ensures i h)
 
 pub weigh-requires : goal.weigh-requires
 weigh-requires g c = record {
   listed =
       subst (λ (o : List ℕ). AllBelow (is_event unit (contents c.args.tables.now)) o (length o)) (sym c.of-standing.ensures)
-      c.in-default.ensures;
+      c.in_default.ensures;
 }
 
 pub returns : goal.returns
@@ -60,7 +60,7 @@ returns g c =
     let a : Answered (C o) (length xs) (Ok c.weigh.result) = (
       record {
         room = let q = c.if-size-lt-PLACES.false in omega arith;
-        listed = listed_from unit t g.R.WaitRule.waits o c.in-default.ensures;
+        listed = listed_from unit t g.R.WaitRule.waits o c.in_default.ensures;
       },
       subst (λ (p : List ℕ). VerdictOn (C p) c.weigh.result) c.of-standing.ensures c.weigh.ensures.judged,
     ) in

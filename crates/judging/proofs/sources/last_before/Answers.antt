@@ -10,15 +10,15 @@ bounds-standing-i c =
     let b = place_le c.args.standing.now.order.now (2 * c.args.n) in
     omega arith
 
-pub offset-bounds-standing-i : goal.offset-bounds-standing-i
-offset-bounds-standing-i c =
+pub offset_bounds-standing-i : goal.offset_bounds-standing-i
+offset_bounds-standing-i c =
     let a = c.args.standing.now.placed (2 * c.args.n) (let x = c.requires.line in omega arith) in
     let b = place_le c.args.standing.now.order.now (2 * c.args.n) in
     let h : c.loop-i.i - 1 < length c.args.standing.now.order.now = omega arith in
     search rules
 
-pub returns-then-writes-cell : goal.returns-then-writes-cell
-returns-then-writes-cell c =
+pub returns-then-writes_cell : goal.returns-then-writes_cell
+returns-then-writes_cell c =
     let ts = contents c.args.tables.now in
     let o = c.args.standing.now.order.now in
     let n = c.args.n in
@@ -28,7 +28,7 @@ returns-then-writes-cell c =
     let l : h < length o = omega arith in
     let low = c.args.standing.now.codes h l in
     scan_found ts o n c.loop-i.i (λ j x y. c.loop-i.invariant j x (omega arith)) h (omega arith) (omega arith)
-    (odd_once ts o c.requires.settled h l (omega arith)) (omega arith) (sym c.if-writes-cell.ensures) (omega arith)
+    (odd_once ts o c.requires.settled h l (omega arith)) (omega arith) (sym c.if-writes_cell.ensures) (omega arith)
 
 pub returns : goal.returns
 returns c =

@@ -6,18 +6,18 @@ use Rattle.judging.specs.Sources.{Best}
 use Rattle.judging.proofs.Beyond.{reads_low}
 use Rattle.judging.proofs.Choosing.{best_should, best_within, best_skip, best_old, best_new}
 use Rattle.judging.proofs.sources.source.Goals as goal
-use Rattle.judging.proofs.sources.source.Goals.{then-writes-cell+then-is-later, else-writes-cell, else-writes-cell-via-then-writes-cell+else-is-later, else-writes-cell-via-else-writes-cell}
+use Rattle.judging.proofs.sources.source.Goals.{then-writes_cell+then-is_later, else-writes_cell, else-writes_cell-via-then-writes_cell+else-is_later, else-writes_cell-via-else-writes_cell}
 
-pub last-before-best-requires : goal.last-before-best-requires
-last-before-best-requires c =
+pub last_before-best-requires : goal.last_before-best-requires
+last_before-best-requires c =
     let t = c.args.tables.now in
     record { line = reads_low (contents t) (good t).tables c.args.n c.requires.reads; settled = c.requires.settled }
 
 pub loop-m-init : goal.loop-m-init
 loop-m-init c = (
-  best_within (contents c.args.tables.now) c.args.standing.now.order.now c.args.n (c.args.n / 32 * 32) c.last-before-best.result
-      c.last-before-best.ensures,
-  c.last-before-best.ensures,
+  best_within (contents c.args.tables.now) c.args.standing.now.order.now c.args.n (c.args.n / 32 * 32) c.last_before-best.result
+      c.last_before-best.ensures,
+  c.last_before-best.ensures,
 )
 
 pub loop-m-preserved : goal.loop-m-preserved
@@ -32,20 +32,20 @@ loop-m-preserved c =
     let own : k / 32 ≡ n / 32 = omega arith in
     let low : k < 128 = omega arith in
     let B : Option ℕ → Type 0 = λ r. Best unit ts o n (k + 1) r in
-    let b : B c.if-writes-cell.best = elim c.if-writes-cell.branch [
-      | then-writes-cell+then-is-later w ↦
+    let b : B c.if-writes_cell.best = elim c.if-writes_cell.branch [
+      | then-writes_cell+then-is_later w ↦
           subst B (sym w.best-is)
-          (best_new ts o n k own low (sym w.if-writes-cell.ensures) c.loop-m.best w.if-is-later.ensures c.loop-m.invariant.1)
-      | else-writes-cell w ↦ subst B (sym w.best-is) (elim w.else-writes-cell.branch [
-        | else-writes-cell-via-then-writes-cell+else-is-later v ↦ best_old ts o n k own c.loop-m.best v.if-is-later.ensures c.loop-m.invariant.1
-        | else-writes-cell-via-else-writes-cell v ↦
-            best_skip ts o n k own (sym v.if-writes-cell.ensures) c.loop-m.best c.loop-m.invariant.1
+          (best_new ts o n k own low (sym w.if-writes_cell.ensures) c.loop-m.best w.if-is_later.ensures c.loop-m.invariant.1)
+      | else-writes_cell w ↦ subst B (sym w.best-is) (elim w.else-writes_cell.branch [
+        | else-writes_cell-via-then-writes_cell+else-is_later v ↦ best_old ts o n k own c.loop-m.best v.if-is_later.ensures c.loop-m.invariant.1
+        | else-writes_cell-via-else-writes_cell v ↦
+            best_skip ts o n k own (sym v.if-writes_cell.ensures) c.loop-m.best c.loop-m.invariant.1
       ])
     ] in
-    (best_within ts o n (k + 1) c.if-writes-cell.best b, b)
+    (best_within ts o n (k + 1) c.if-writes_cell.best b, b)
 
-pub is-later-requires : goal.is-later-requires
-is-later-requires c =
+pub is_later-requires : goal.is_later-requires
+is_later-requires c =
     let t = c.args.tables.now in
     let line = reads_low (contents t) (good t).tables c.args.n c.requires.reads in
     (c.loop-m.invariant.0, omega arith)

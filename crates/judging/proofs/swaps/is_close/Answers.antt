@@ -10,8 +10,8 @@ bounds-standing-i c =
     let b = place_le c.args.standing.now.order.now (c.args.e + 1) in
     omega arith
 
-pub offset-bounds-standing-i : goal.offset-bounds-standing-i
-offset-bounds-standing-i c =
+pub offset_bounds-standing-i : goal.offset_bounds-standing-i
+offset_bounds-standing-i c =
     let a = c.args.standing.now.placed (c.args.e + 1) c.requires in
     let b = place_le c.args.standing.now.order.now (c.args.e + 1) in
     let h : c.loop-i.i < length c.args.standing.now.order.now = omega arith in

@@ -6,28 +6,28 @@ use Rattle.judging.proofs.Beyond.{past_write}
 use Rattle.judging.proofs.Scans.{swap_even, swap_none, swap_here, swap_not, past_between}
 use Rattle.judging.proofs.swaps.swap_row.Goals as goal
 
-pub returns-then-not-is-swap : goal.returns-then-not-is-swap
-returns-then-not-is-swap c =
-    swap_none (contents c.args.tables.now) c.args.standing.now.order.now c.args.e (sym c.if-not-is-swap.ensures)
+pub returns-then-not-is_swap : goal.returns-then-not-is_swap
+returns-then-not-is_swap c =
+    swap_none (contents c.args.tables.now) c.args.standing.now.order.now c.args.e (sym c.if-not-is_swap.ensures)
 
-pub is-close-requires : goal.is-close-requires
-is-close-requires c =
+pub is_close-requires : goal.is_close-requires
+is_close-requires c =
     let even =
-    swap_even (contents c.args.tables.now) c.args.standing.now.order.now c.args.e (sym c.if-not-is-swap.ensures) in
+    swap_even (contents c.args.tables.now) c.args.standing.now.order.now c.args.e (sym c.if-not-is_swap.ensures) in
     let x = c.requires in
     omega arith
 
-pub is-between-requires : goal.is-between-requires
-is-between-requires c =
+pub is_between-requires : goal.is_between-requires
+is_between-requires c =
     let even =
-    swap_even (contents c.args.tables.now) c.args.standing.now.order.now c.args.e (sym c.if-not-is-swap.ensures) in
+    swap_even (contents c.args.tables.now) c.args.standing.now.order.now c.args.e (sym c.if-not-is_swap.ensures) in
     let x = c.requires in
     (omega arith, omega arith)
 
-pub returns-then-is-between : goal.returns-then-is-between
-returns-then-is-between c = (
+pub returns-then-is_between : goal.returns-then-is_between
+returns-then-is_between c = (
   swap_here (contents c.args.tables.now) c.args.standing.now.order.now c.args.e c.loop-f.f
-      (sym c.if-not-is-swap.ensures) (sym c.if-is-between.ensures),
+      (sym c.if-not-is_swap.ensures) (sym c.if-is_between.ensures),
   c.loop-f.invariant,
 )
 
@@ -35,7 +35,7 @@ pub loop-f-preserved : goal.loop-f-preserved
 loop-f-preserved c =
     below_more _ _ c.loop-f.invariant
     (swap_not (contents c.args.tables.now) c.args.standing.now.order.now c.args.e c.loop-f.f
-    (sym c.if-is-between.ensures))
+    (sym c.if-is_between.ensures))
 
 pub returns : goal.returns
 returns c =

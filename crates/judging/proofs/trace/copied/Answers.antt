@@ -15,5 +15,5 @@ unfolding number table
 returns-in-Copied c =
     let m = c.args.m in
     let k = c.in-Copied.line in
-    let s : m / 32 * 32 + c.saturating-sub.result ≡ 32 * (m / 32) + (k - 1) = omega arith in
+    let s : m / 32 * 32 + c.saturating_sub.result ≡ 32 * (m / 32) + (k - 1) = omega arith in
     ap Some s ∙ sym (copy_operand unit (contents c.args.tables.now) m ∙ ap (copied_by unit m) (sym c.in-Copied.ensures))

@@ -28,31 +28,31 @@ returns-then-same g c =
     let start = g.K.WordKind.starts in
     let words = words_on g.K.WordKind.meaning start xs in
     let stored = stored_at (kind_of start g.K.WordKind.writtens) unit ts in
-    let q = ap (λ (ys : List g.row.K-Word.Denot). words_on g.K.WordKind.meaning start ys n) c.due-word-due.ensures.same in
-    let e = sym (c.word-at-word.ensures.value ∙ q) ∙ c.same.ensures.0 c.if-same.true ∙ c.due-word-due.ensures.value in
+    let q = ap (λ (ys : List g.row.K-Word.Denot). words_on g.K.WordKind.meaning start ys n) c.due_word-due.ensures.same in
+    let e = sym (c.word_at-word.ensures.value ∙ q) ∙ c.same.ensures.0 c.if-same.true ∙ c.due_word-due.ensures.value in
     record {
       checked = λ w s r h.
           subst (λ (v : Option ℕ). words n ≡ worth stored start words (cell_at unit ts n) v)
           (should_same ts c.args.standing.now.order.now c.requires.settled w n r c.source-source.result s (c.source-source.ensures.should w) h) e;
       within = tt;
-      same = c.word-at-word.ensures.same ∙ c.due-word-due.ensures.same;
-      named = c.word-at-word.ensures.named ∙ c.due-word-due.ensures.named;
+      same = c.word_at-word.ensures.same ∙ c.due_word-due.ensures.same;
+      named = c.word_at-word.ensures.named ∙ c.due_word-due.ensures.named;
     }
 
 pub returns-else-same : goal.returns-else-same
 returns-else-same g c =
     let n = c.args.n in
     let start = g.K.WordKind.starts in
-    let q = ap (λ (ys : List g.row.K-Word.Denot). words_on g.K.WordKind.meaning start ys n) c.due-word-due.ensures.same in
+    let q = ap (λ (ys : List g.row.K-Word.Denot). words_on g.K.WordKind.meaning start ys n) c.due_word-due.ensures.same in
     record {
       checked = λ w. record {
         reads = sym c.if-not-reads.ensures;
         should = c.source-source.ensures.should w;
         wrong = λ e.
             both_ways c.same.result c.if-same.false
-            (c.same.ensures.1 (c.word-at-word.ensures.value ∙ q ∙ e ∙ sym c.due-word-due.ensures.value));
+            (c.same.ensures.1 (c.word_at-word.ensures.value ∙ q ∙ e ∙ sym c.due_word-due.ensures.value));
       };
       within = c.source-source.ensures.within;
-      same = c.word-at-word.ensures.same ∙ c.due-word-due.ensures.same;
-      named = c.word-at-word.ensures.named ∙ c.due-word-due.ensures.named;
+      same = c.word_at-word.ensures.same ∙ c.due_word-due.ensures.same;
+      named = c.word_at-word.ensures.named ∙ c.due_word-due.ensures.named;
     }

@@ -14,11 +14,11 @@ pub loop-n-preserved : goal.loop-n-preserved
 loop-n-preserved g c =
     let C : Waits → List g.row.K-Word.Denot → Case g.K.WordKind.Meaning = λ w xs.
     case w g.K.WordKind.meaning g.K.WordKind.starts g.K.WordKind.writtens (contents c.args.tables.now) c.args.standing.now.order.now xs in (
-      c.check-read.ensures.same ∙ c.loop-n.invariant.0,
-      c.check-read.ensures.named ∙ c.loop-n.invariant.1,
+      c.check_read.ensures.same ∙ c.loop-n.invariant.0,
+      c.check_read.ensures.named ∙ c.loop-n.invariant.1,
       λ w.
           below_more (λ j. Right (C w c.args.sheet.now.places.now) j) c.loop-n.n (c.loop-n.invariant.2 w)
-          (subst (λ (xs : List g.row.K-Word.Denot). Right (C w xs) c.loop-n.n) c.loop-n.invariant.0 (c.in-default.ensures.checked w)),
+          (subst (λ (xs : List g.row.K-Word.Denot). Right (C w xs) c.loop-n.n) c.loop-n.invariant.0 (c.in_default.ensures.checked w)),
     )
 
 pub returns-in-Some : goal.returns-in-Some
@@ -31,8 +31,8 @@ returns-in-Some g c =
         c.loop-n.invariant.2 w,
       );
       within = (omega arith, c.in-Some.ensures.within);
-      same = c.check-read.ensures.same ∙ c.loop-n.invariant.0;
-      named = c.check-read.ensures.named ∙ c.loop-n.invariant.1;
+      same = c.check_read.ensures.same ∙ c.loop-n.invariant.0;
+      named = c.check_read.ensures.named ∙ c.loop-n.invariant.1;
     }
 
 pub returns : goal.returns

@@ -29,14 +29,14 @@ returns-in-Copied g c =
     let m = c.args.m in
     let k = c.in-Copied.line in
     let words = words_on g.K.WordKind.meaning g.K.WordKind.starts c.args.sheet.now.places.now in
-    let s = c.saturating-sub.ensures in
-    let q : m / 32 * 32 + c.saturating-sub.result ≡ 32 * (m / 32) + (k - 1) = omega arith in
+    let s = c.saturating_sub.ensures in
+    let q : m / 32 * 32 + c.saturating_sub.result ≡ 32 * (m / 32) + (k - 1) = omega arith in
     record {
       value =
-          c.word-at.ensures.value
+          c.word_at.ensures.value
           ∙ ap words q
           ∙ stored_copied unit m (kind_of g.K.WordKind.starts g.K.WordKind.writtens) (contents c.args.tables.now) words k
           (sym c.in-Copied.ensures);
-      same = c.word-at.ensures.same;
-      named = c.word-at.ensures.named;
+      same = c.word_at.ensures.same;
+      named = c.word_at.ensures.named;
     }

@@ -4,4 +4,4 @@ use Rattle.machine.proofs.spots.place_of.Goals as goal
 
 pub returns : goal.returns
 unfolding number
-returns c = omega (arith, c.saturating-sub-table.ensures, c.saturating-sub-row.ensures)
+returns c = omega (arith, c.saturating_sub-table.ensures, c.saturating_sub-row.ensures)

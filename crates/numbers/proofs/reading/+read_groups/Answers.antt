@@ -23,30 +23,30 @@ returns-then-byte-lt128 t c =
     rw c.from.ensures
     (stands_last c.args.left c.args.bytes.now c.args.at (omega arith) (omega arith) (omega arith) (omega arith))
 
-pub returns-in-err-high : goal.returns-in-err-high
-returns-in-err-high t c =
-    let p = err_from_is_err_and c.from-residual.result c.from-residual.ensures.1 in
+pub returns-in_err-high : goal.returns-in_err-high
+returns-in_err-high t c =
+    let p = err_from_is_err_and c.from_residual.result c.from_residual.ensures.1 in
     let g : 1 < c.args.left = omega arith in
     let b : 128 ≤ get_or c.args.bytes.now c.args.at 0 = omega arith in
-    rw (p.1, p.2) (elim c.in-err-high.ensures [
+    rw (p.1, p.2) (elim c.in_err-high.ensures [
       | inl w ↦ inl (w.0, cut_more c.args.left c.args.bytes.now c.args.at g b w.1)
       | inr w ↦ inr (w.0, wide_more c.args.left c.args.bytes.now c.args.at g b w.1)
     ])
 
-pub overflow-mul-result : goal.overflow-mul-result
-overflow-mul-result t c =
-    let s = c.in-ok-high.ensures in
+pub overflow_mul-result : goal.overflow_mul-result
+overflow_mul-result t c =
+    let s = c.in_ok-high.ensures in
     let g : 1 < c.args.left = omega arith in
     omega (arith, s.small, bound_more c.args.left g, bound_top c.args.left (omega arith))
 
-pub overflow-add-result : goal.overflow-add-result
-overflow-add-result t c =
-    let s = c.in-ok-high.ensures in
+pub overflow_add-result : goal.overflow_add-result
+overflow_add-result t c =
+    let s = c.in_ok-high.ensures in
     let g : 1 < c.args.left = omega arith in
-    let b : get_or c.args.bytes.now c.args.at 0 < 256 = omega (arith, c.type-inv.bytes c.args.at) in
+    let b : get_or c.args.bytes.now c.args.at 0 < 256 = omega (arith, c.type_inv.bytes c.args.at) in
     omega (arith, s.small, bound_more c.args.left g, bound_top c.args.left (omega arith))
 
 pub returns : goal.returns
 returns t c =
-    let b : get_or c.args.bytes.now c.args.at 0 < 256 = omega (arith, c.type-inv.bytes c.args.at) in
-    stands_more c.args.left c.args.bytes.now c.args.at c.in-ok-high.high _ c.in-ok-high.last (omega arith) (omega arith) (omega arith) b (omega arith) c.in-ok-high.ensures
+    let b : get_or c.args.bytes.now c.args.at 0 < 256 = omega (arith, c.type_inv.bytes c.args.at) in
+    stands_more c.args.left c.args.bytes.now c.args.at c.in_ok-high.high _ c.in_ok-high.last (omega arith) (omega arith) (omega arith) b (omega arith) c.in_ok-high.ensures

@@ -14,8 +14,8 @@ returns-then-value-lt128 t c =
 pub bounds-out-at-2 : goal.bounds-out-at-2
 bounds-out-at-2 t c = omega (arith, size_more c.args.left c.args.value (omega arith) (omega arith))
 
-pub put-groups-requires : goal.put-groups-requires
-put-groups-requires t c =
+pub put_groups-requires : goal.put_groups-requires
+put_groups-requires t c =
     let r = room c.args.left c.args.value (omega arith) (omega arith) c.requires.1.1 in
     let s = size_more c.args.left c.args.value (omega arith) (omega arith) in
     (omega arith, (simp length-set (omega arith), (omega arith, r.1)))
@@ -23,4 +23,4 @@ put-groups-requires t c =
 pub returns : goal.returns
 returns t c =
     let s = size_more c.args.left c.args.value (omega arith) (omega arith) in
-    put_more c.args.left c.args.out.now c.args.at c.args.value _ _ (omega arith) (omega arith) (omega arith) c.put-groups.ensures
+    put_more c.args.left c.args.out.now c.args.at c.args.value _ _ (omega arith) (omega arith) (omega arith) c.put_groups.ensures

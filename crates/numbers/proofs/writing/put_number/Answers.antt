@@ -2,6 +2,6 @@ use Rattle.std.proofs.Common.{arith}
 use Rattle.numbers.specs.Number.{bound}
 use Rattle.numbers.proofs.writing.put_number.Goals as goal
 
-pub put-groups-requires : goal.put-groups-requires
+pub put_groups-requires : goal.put_groups-requires
 unfolding bound
-put-groups-requires c = omega arith
+put_groups-requires c = omega arith

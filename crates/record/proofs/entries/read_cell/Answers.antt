@@ -6,12 +6,12 @@ use Rattle.record.proofs.entries.read_cell.Goals as goal
 pub returns-then-cell-from : goal.returns-then-cell-from
 returns-then-cell-from c = record {
   reads = inr (record {
-    value = c.in-ok-cell.cell;
-    next = c.in-ok-cell.next;
-    stands = c.in-ok-cell.ensures.reads;
+    value = c.in_ok-cell.cell;
+    next = c.in_ok-cell.next;
+    stands = c.in_ok-cell.ensures.reads;
     cause = CellBeyond;
     fails = grind (arith, nat_tests);
-    fault = ap CellBeyond c.saturating-add.ensures;
+    fault = ap CellBeyond c.saturating_add.ensures;
   });
   on = tt;
 }

@@ -5,19 +5,19 @@ use Rattle.tables.specs.Contents.{contents}
 use Rattle.record.proofs.EntryTests.{copy_fails, reading_within}
 use Rattle.record.proofs.entries.read_copied.Goals as goal
 
-pub returns-then-not-reads-line : goal.returns-then-not-reads-line
-returns-then-not-reads-line c = record {
+pub returns-then-not-reads_line : goal.returns-then-not-reads_line
+returns-then-not-reads_line c = record {
   reads = inr (record {
-    value = c.in-ok-line.line;
-    next = c.in-ok-line.next;
-    stands = c.in-ok-line.ensures.reads;
+    value = c.in_ok-line.line;
+    next = c.in_ok-line.next;
+    stands = c.in_ok-line.ensures.reads;
     cause = CopyAmiss;
-    fails = copy_fails (get_or (contents c.args.tables.now) c.args.table empty) c.in-ok-line.line (sym c.if-not-reads-line.ensures);
-    fault = ap CopyAmiss c.saturating-add.ensures;
+    fails = copy_fails (get_or (contents c.args.tables.now) c.args.table empty) c.in_ok-line.line (sym c.if-not-reads_line.ensures);
+    fault = ap CopyAmiss c.saturating_add.ensures;
   });
   on = tt;
 }
 
-pub overflow-cast-result : goal.overflow-cast-result
-overflow-cast-result c =
-    let h = reading_within c.args.tables.now c.args.table c.in-ok-line.line (sym c.if-not-reads-line.ensures) in omega arith
+pub overflow_cast-result : goal.overflow_cast-result
+overflow_cast-result c =
+    let h = reading_within c.args.tables.now c.args.table c.in_ok-line.line (sym c.if-not-reads_line.ensures) in omega arith

@@ -7,145 +7,145 @@ use Rattle.numbers.proofs.Standing.{number_on}
 use Rattle.record.proofs.Parts.{first_amiss, second_amiss, third_amiss, two_stand, three_stand}
 use Rattle.record.proofs.entries.read_item.Goals as goal
 
-pub returns-in-err-cell : goal.returns-in-err-cell
-returns-in-err-cell c =
-    let p = err_from_is_err_and c.from-residual-in-err-cell.result c.from-residual-in-err-cell.ensures.1 in
+pub returns-in_err-cell-in-Load : goal.returns-in_err-cell-in-Load
+returns-in_err-cell-in-Load c =
+    let p = err_from_is_err_and c.from_residual-in_err-cell-in-Load.result c.from_residual-in_err-cell-in-Load.ensures.1 in
     rw (p.1, p.2) (record {
       reads = first_amiss c.args.part.bytes.now c.args.part.start (get_or (contents c.args.tables.now) c.args.table empty) c.args.at cell (claim ∷ [])
-          c.in-ok-code.ensures.reads (rw c.in-Load.is) c.in-err-cell.ensures.reads;
+          c.in_ok-code.ensures.reads (rw c.in-Load.is) c.in_err-cell-in-Load.ensures.reads;
       on = tt;
     })
 
-pub returns-in-err-claim : goal.returns-in-err-claim
-returns-in-err-claim c =
-    let p = err_from_is_err_and c.from-residual-in-err-claim.result c.from-residual-in-err-claim.ensures.1 in
+pub returns-in_err-claim-in-Load : goal.returns-in_err-claim-in-Load
+returns-in_err-claim-in-Load c =
+    let p = err_from_is_err_and c.from_residual-in_err-claim-in-Load.result c.from_residual-in_err-claim-in-Load.ensures.1 in
     rw (p.1, p.2) (record {
       reads = second_amiss c.args.part.bytes.now c.args.part.start (get_or (contents c.args.tables.now) c.args.table empty) c.args.at cell claim []
-          c.in-ok-code.ensures.reads (rw c.in-Load.is) c.in-ok-cell.ensures.reads (inl c.in-err-claim.ensures.reads);
+          c.in_ok-code.ensures.reads (rw c.in-Load.is) c.in_ok-cell-in-Load.ensures.reads (inl c.in_err-claim-in-Load.ensures.reads);
       on = tt;
     })
 
-pub returns-in-ok-claim : goal.returns-in-ok-claim
-returns-in-ok-claim c = record {
+pub returns-in_ok-claim-in-Load : goal.returns-in_ok-claim-in-Load
+returns-in_ok-claim-in-Load c = record {
   reads = two_stand c.args.part.bytes.now c.args.part.start (get_or (contents c.args.tables.now) c.args.table empty) c.args.at cell claim c.line.result
-      c.in-ok-code.ensures.reads (rw c.in-Load.is) c.in-ok-cell.ensures.reads (c.in-ok-claim.ensures.reads, refl) (rw c.in-Load.is c.line.ensures);
-  on = (omega (arith, c.in-ok-code.ensures.on, c.in-ok-cell.ensures.on, number_on c.args.part.bytes.now c.in-ok-cell.after c.in-ok-claim.claim c.in-ok-claim.next c.in-ok-claim.ensures.reads), c.in-ok-claim.ensures.reads.within);
+      c.in_ok-code.ensures.reads (rw c.in-Load.is) c.in_ok-cell-in-Load.ensures.reads (c.in_ok-claim-in-Load.ensures.reads, refl) (rw c.in-Load.is c.line.ensures);
+  on = (omega (arith, c.in_ok-code.ensures.on, c.in_ok-cell-in-Load.ensures.on, number_on c.args.part.bytes.now c.in_ok-cell-in-Load.after c.in_ok-claim-in-Load.claim c.in_ok-claim-in-Load.next c.in_ok-claim-in-Load.ensures.reads), c.in_ok-claim-in-Load.ensures.reads.within);
 }
 
-pub returns-in-err-cell-2 : goal.returns-in-err-cell-2
-returns-in-err-cell-2 c =
-    let p = err_from_is_err_and c.from-residual-in-err-cell-2.result c.from-residual-in-err-cell-2.ensures.1 in
+pub returns-in_err-cell-in-StoreNumber : goal.returns-in_err-cell-in-StoreNumber
+returns-in_err-cell-in-StoreNumber c =
+    let p = err_from_is_err_and c.from_residual-in_err-cell-in-StoreNumber.result c.from_residual-in_err-cell-in-StoreNumber.ensures.1 in
     rw (p.1, p.2) (record {
       reads = first_amiss c.args.part.bytes.now c.args.part.start (get_or (contents c.args.tables.now) c.args.table empty) c.args.at cell (number ∷ [])
-          c.in-ok-code.ensures.reads (rw c.in-StoreNumber.is) c.in-err-cell-2.ensures.reads;
+          c.in_ok-code.ensures.reads (rw c.in-StoreNumber.is) c.in_err-cell-in-StoreNumber.ensures.reads;
       on = tt;
     })
 
-pub returns-in-err-number : goal.returns-in-err-number
-returns-in-err-number c =
-    let p = err_from_is_err_and c.from-residual-in-err-number.result c.from-residual-in-err-number.ensures.1 in
+pub returns-in_err-number-in-StoreNumber : goal.returns-in_err-number-in-StoreNumber
+returns-in_err-number-in-StoreNumber c =
+    let p = err_from_is_err_and c.from_residual-in_err-number-in-StoreNumber.result c.from_residual-in_err-number-in-StoreNumber.ensures.1 in
     rw (p.1, p.2) (record {
       reads = second_amiss c.args.part.bytes.now c.args.part.start (get_or (contents c.args.tables.now) c.args.table empty) c.args.at cell number []
-          c.in-ok-code.ensures.reads (rw c.in-StoreNumber.is) c.in-ok-cell-2.ensures.reads (inl c.in-err-number.ensures.reads);
+          c.in_ok-code.ensures.reads (rw c.in-StoreNumber.is) c.in_ok-cell-in-StoreNumber.ensures.reads (inl c.in_err-number-in-StoreNumber.ensures.reads);
       on = tt;
     })
 
-pub returns-in-ok-number : goal.returns-in-ok-number
-returns-in-ok-number c = record {
+pub returns-in_ok-number-in-StoreNumber : goal.returns-in_ok-number-in-StoreNumber
+returns-in_ok-number-in-StoreNumber c = record {
   reads = two_stand c.args.part.bytes.now c.args.part.start (get_or (contents c.args.tables.now) c.args.table empty) c.args.at cell number c.line-in-StoreNumber.result
-      c.in-ok-code.ensures.reads (rw c.in-StoreNumber.is) c.in-ok-cell-2.ensures.reads (c.in-ok-number.ensures.reads, refl) (rw c.in-StoreNumber.is c.line-in-StoreNumber.ensures);
-  on = (omega (arith, c.in-ok-code.ensures.on, c.in-ok-cell-2.ensures.on, number_on c.args.part.bytes.now c.in-ok-cell-2.after c.in-ok-number.number c.in-ok-number.next c.in-ok-number.ensures.reads), c.in-ok-number.ensures.reads.within);
+      c.in_ok-code.ensures.reads (rw c.in-StoreNumber.is) c.in_ok-cell-in-StoreNumber.ensures.reads (c.in_ok-number-in-StoreNumber.ensures.reads, refl) (rw c.in-StoreNumber.is c.line-in-StoreNumber.ensures);
+  on = (omega (arith, c.in_ok-code.ensures.on, c.in_ok-cell-in-StoreNumber.ensures.on, number_on c.args.part.bytes.now c.in_ok-cell-in-StoreNumber.after c.in_ok-number-in-StoreNumber.number c.in_ok-number-in-StoreNumber.next c.in_ok-number-in-StoreNumber.ensures.reads), c.in_ok-number-in-StoreNumber.ensures.reads.within);
 }
 
-pub returns-in-err-cell-3 : goal.returns-in-err-cell-3
-returns-in-err-cell-3 c =
-    let p = err_from_is_err_and c.from-residual-in-err-cell-3.result c.from-residual-in-err-cell-3.ensures.1 in
+pub returns-in_err-cell-in-StoreCopy : goal.returns-in_err-cell-in-StoreCopy
+returns-in_err-cell-in-StoreCopy c =
+    let p = err_from_is_err_and c.from_residual-in_err-cell-in-StoreCopy.result c.from_residual-in_err-cell-in-StoreCopy.ensures.1 in
     rw (p.1, p.2) (record {
       reads = first_amiss c.args.part.bytes.now c.args.part.start (get_or (contents c.args.tables.now) c.args.table empty) c.args.at cell (copied ∷ [])
-          c.in-ok-code.ensures.reads (rw c.in-StoreCopy.is) c.in-err-cell-3.ensures.reads;
+          c.in_ok-code.ensures.reads (rw c.in-StoreCopy.is) c.in_err-cell-in-StoreCopy.ensures.reads;
       on = tt;
     })
 
-pub returns-in-err-copied : goal.returns-in-err-copied
-returns-in-err-copied c =
-    let p = err_from_is_err_and c.from-residual-in-err-copied.result c.from-residual-in-err-copied.ensures.1 in
+pub returns-in_err-copied-in-StoreCopy : goal.returns-in_err-copied-in-StoreCopy
+returns-in_err-copied-in-StoreCopy c =
+    let p = err_from_is_err_and c.from_residual-in_err-copied-in-StoreCopy.result c.from_residual-in_err-copied-in-StoreCopy.ensures.1 in
     rw (p.1, p.2) (record {
       reads = second_amiss c.args.part.bytes.now c.args.part.start (get_or (contents c.args.tables.now) c.args.table empty) c.args.at cell copied []
-          c.in-ok-code.ensures.reads (rw c.in-StoreCopy.is) c.in-ok-cell-3.ensures.reads c.in-err-copied.ensures.reads;
+          c.in_ok-code.ensures.reads (rw c.in-StoreCopy.is) c.in_ok-cell-in-StoreCopy.ensures.reads c.in_err-copied-in-StoreCopy.ensures.reads;
       on = tt;
     })
 
-pub returns-in-ok-copied : goal.returns-in-ok-copied
-returns-in-ok-copied c = record {
+pub returns-in_ok-copied-in-StoreCopy : goal.returns-in_ok-copied-in-StoreCopy
+returns-in_ok-copied-in-StoreCopy c = record {
   reads = two_stand c.args.part.bytes.now c.args.part.start (get_or (contents c.args.tables.now) c.args.table empty) c.args.at cell copied c.line-in-StoreCopy.result
-      c.in-ok-code.ensures.reads (rw c.in-StoreCopy.is) c.in-ok-cell-3.ensures.reads c.in-ok-copied.ensures.reads (rw c.in-StoreCopy.is c.line-in-StoreCopy.ensures);
-  on = (omega (arith, c.in-ok-code.ensures.on, c.in-ok-cell-3.ensures.on, c.in-ok-copied.ensures.on), c.in-ok-copied.ensures.on.1);
+      c.in_ok-code.ensures.reads (rw c.in-StoreCopy.is) c.in_ok-cell-in-StoreCopy.ensures.reads c.in_ok-copied-in-StoreCopy.ensures.reads (rw c.in-StoreCopy.is c.line-in-StoreCopy.ensures);
+  on = (omega (arith, c.in_ok-code.ensures.on, c.in_ok-cell-in-StoreCopy.ensures.on, c.in_ok-copied-in-StoreCopy.ensures.on), c.in_ok-copied-in-StoreCopy.ensures.on.1);
 }
 
-pub returns-in-err-cell-4 : goal.returns-in-err-cell-4
-returns-in-err-cell-4 c =
-    let p = err_from_is_err_and c.from-residual-in-err-cell-4.result c.from-residual-in-err-cell-4.ensures.1 in
+pub returns-in_err-cell-in-SwapNumber : goal.returns-in_err-cell-in-SwapNumber
+returns-in_err-cell-in-SwapNumber c =
+    let p = err_from_is_err_and c.from_residual-in_err-cell-in-SwapNumber.result c.from_residual-in_err-cell-in-SwapNumber.ensures.1 in
     rw (p.1, p.2) (record {
       reads = first_amiss c.args.part.bytes.now c.args.part.start (get_or (contents c.args.tables.now) c.args.table empty) c.args.at cell (number ∷ claim ∷ [])
-          c.in-ok-code.ensures.reads (rw c.in-SwapNumber.is) c.in-err-cell-4.ensures.reads;
+          c.in_ok-code.ensures.reads (rw c.in-SwapNumber.is) c.in_err-cell-in-SwapNumber.ensures.reads;
       on = tt;
     })
 
-pub returns-in-err-number-2 : goal.returns-in-err-number-2
-returns-in-err-number-2 c =
-    let p = err_from_is_err_and c.from-residual-in-err-number-2.result c.from-residual-in-err-number-2.ensures.1 in
+pub returns-in_err-number-in-SwapNumber : goal.returns-in_err-number-in-SwapNumber
+returns-in_err-number-in-SwapNumber c =
+    let p = err_from_is_err_and c.from_residual-in_err-number-in-SwapNumber.result c.from_residual-in_err-number-in-SwapNumber.ensures.1 in
     rw (p.1, p.2) (record {
       reads = second_amiss c.args.part.bytes.now c.args.part.start (get_or (contents c.args.tables.now) c.args.table empty) c.args.at cell number (claim ∷ [])
-          c.in-ok-code.ensures.reads (rw c.in-SwapNumber.is) c.in-ok-cell-4.ensures.reads (inl c.in-err-number-2.ensures.reads);
+          c.in_ok-code.ensures.reads (rw c.in-SwapNumber.is) c.in_ok-cell-in-SwapNumber.ensures.reads (inl c.in_err-number-in-SwapNumber.ensures.reads);
       on = tt;
     })
 
-pub returns-in-err-claim-2 : goal.returns-in-err-claim-2
-returns-in-err-claim-2 c =
-    let p = err_from_is_err_and c.from-residual-in-err-claim-2.result c.from-residual-in-err-claim-2.ensures.1 in
+pub returns-in_err-claim-in-SwapNumber : goal.returns-in_err-claim-in-SwapNumber
+returns-in_err-claim-in-SwapNumber c =
+    let p = err_from_is_err_and c.from_residual-in_err-claim-in-SwapNumber.result c.from_residual-in_err-claim-in-SwapNumber.ensures.1 in
     rw (p.1, p.2) (record {
       reads = third_amiss c.args.part.bytes.now c.args.part.start (get_or (contents c.args.tables.now) c.args.table empty) c.args.at cell number claim []
-          c.in-ok-code.ensures.reads (rw c.in-SwapNumber.is) c.in-ok-cell-4.ensures.reads (c.in-ok-number-2.ensures.reads, refl) (inl c.in-err-claim-2.ensures.reads);
+          c.in_ok-code.ensures.reads (rw c.in-SwapNumber.is) c.in_ok-cell-in-SwapNumber.ensures.reads (c.in_ok-number-in-SwapNumber.ensures.reads, refl) (inl c.in_err-claim-in-SwapNumber.ensures.reads);
       on = tt;
     })
 
-pub returns-in-ok-claim-2 : goal.returns-in-ok-claim-2
-returns-in-ok-claim-2 c = record {
+pub returns-in_ok-claim-in-SwapNumber : goal.returns-in_ok-claim-in-SwapNumber
+returns-in_ok-claim-in-SwapNumber c = record {
   reads = three_stand c.args.part.bytes.now c.args.part.start (get_or (contents c.args.tables.now) c.args.table empty) c.args.at cell number claim c.line-in-SwapNumber.result
-      c.in-ok-code.ensures.reads (rw c.in-SwapNumber.is) c.in-ok-cell-4.ensures.reads (c.in-ok-number-2.ensures.reads, refl) (c.in-ok-claim-2.ensures.reads, refl) (rw c.in-SwapNumber.is c.line-in-SwapNumber.ensures);
-  on = (omega (arith, c.in-ok-code.ensures.on, c.in-ok-cell-4.ensures.on, number_on c.args.part.bytes.now c.in-ok-cell-4.after c.in-ok-number-2.number c.in-ok-number-2.past c.in-ok-number-2.ensures.reads, number_on c.args.part.bytes.now c.in-ok-number-2.past c.in-ok-claim-2.claim c.in-ok-claim-2.next c.in-ok-claim-2.ensures.reads), c.in-ok-claim-2.ensures.reads.within);
+      c.in_ok-code.ensures.reads (rw c.in-SwapNumber.is) c.in_ok-cell-in-SwapNumber.ensures.reads (c.in_ok-number-in-SwapNumber.ensures.reads, refl) (c.in_ok-claim-in-SwapNumber.ensures.reads, refl) (rw c.in-SwapNumber.is c.line-in-SwapNumber.ensures);
+  on = (omega (arith, c.in_ok-code.ensures.on, c.in_ok-cell-in-SwapNumber.ensures.on, number_on c.args.part.bytes.now c.in_ok-cell-in-SwapNumber.after c.in_ok-number-in-SwapNumber.number c.in_ok-number-in-SwapNumber.past c.in_ok-number-in-SwapNumber.ensures.reads, number_on c.args.part.bytes.now c.in_ok-number-in-SwapNumber.past c.in_ok-claim-in-SwapNumber.claim c.in_ok-claim-in-SwapNumber.next c.in_ok-claim-in-SwapNumber.ensures.reads), c.in_ok-claim-in-SwapNumber.ensures.reads.within);
 }
 
-pub returns-in-err-cell-5 : goal.returns-in-err-cell-5
-returns-in-err-cell-5 c =
-    let p = err_from_is_err_and c.from-residual-in-err-cell-5.result c.from-residual-in-err-cell-5.ensures.1 in
+pub returns-in_err-cell-in-SwapCopy : goal.returns-in_err-cell-in-SwapCopy
+returns-in_err-cell-in-SwapCopy c =
+    let p = err_from_is_err_and c.from_residual-in_err-cell-in-SwapCopy.result c.from_residual-in_err-cell-in-SwapCopy.ensures.1 in
     rw (p.1, p.2) (record {
       reads = first_amiss c.args.part.bytes.now c.args.part.start (get_or (contents c.args.tables.now) c.args.table empty) c.args.at cell (copied ∷ claim ∷ [])
-          c.in-ok-code.ensures.reads (rw c.in-SwapCopy.is) c.in-err-cell-5.ensures.reads;
+          c.in_ok-code.ensures.reads (rw c.in-SwapCopy.is) c.in_err-cell-in-SwapCopy.ensures.reads;
       on = tt;
     })
 
-pub returns-in-err-copied-2 : goal.returns-in-err-copied-2
-returns-in-err-copied-2 c =
-    let p = err_from_is_err_and c.from-residual-in-err-copied-2.result c.from-residual-in-err-copied-2.ensures.1 in
+pub returns-in_err-copied-in-SwapCopy : goal.returns-in_err-copied-in-SwapCopy
+returns-in_err-copied-in-SwapCopy c =
+    let p = err_from_is_err_and c.from_residual-in_err-copied-in-SwapCopy.result c.from_residual-in_err-copied-in-SwapCopy.ensures.1 in
     rw (p.1, p.2) (record {
       reads = second_amiss c.args.part.bytes.now c.args.part.start (get_or (contents c.args.tables.now) c.args.table empty) c.args.at cell copied (claim ∷ [])
-          c.in-ok-code.ensures.reads (rw c.in-SwapCopy.is) c.in-ok-cell-5.ensures.reads c.in-err-copied-2.ensures.reads;
+          c.in_ok-code.ensures.reads (rw c.in-SwapCopy.is) c.in_ok-cell-in-SwapCopy.ensures.reads c.in_err-copied-in-SwapCopy.ensures.reads;
       on = tt;
     })
 
-pub returns-in-err-claim-3 : goal.returns-in-err-claim-3
-returns-in-err-claim-3 c =
-    let p = err_from_is_err_and c.from-residual-in-err-claim-3.result c.from-residual-in-err-claim-3.ensures.1 in
+pub returns-in_err-claim-in-SwapCopy : goal.returns-in_err-claim-in-SwapCopy
+returns-in_err-claim-in-SwapCopy c =
+    let p = err_from_is_err_and c.from_residual-in_err-claim-in-SwapCopy.result c.from_residual-in_err-claim-in-SwapCopy.ensures.1 in
     rw (p.1, p.2) (record {
       reads = third_amiss c.args.part.bytes.now c.args.part.start (get_or (contents c.args.tables.now) c.args.table empty) c.args.at cell copied claim []
-          c.in-ok-code.ensures.reads (rw c.in-SwapCopy.is) c.in-ok-cell-5.ensures.reads c.in-ok-copied-2.ensures.reads (inl c.in-err-claim-3.ensures.reads);
+          c.in_ok-code.ensures.reads (rw c.in-SwapCopy.is) c.in_ok-cell-in-SwapCopy.ensures.reads c.in_ok-copied-in-SwapCopy.ensures.reads (inl c.in_err-claim-in-SwapCopy.ensures.reads);
       on = tt;
     })
 
-pub returns-in-ok-claim-3 : goal.returns-in-ok-claim-3
-returns-in-ok-claim-3 c = record {
+pub returns-in_ok-claim-in-SwapCopy : goal.returns-in_ok-claim-in-SwapCopy
+returns-in_ok-claim-in-SwapCopy c = record {
   reads = three_stand c.args.part.bytes.now c.args.part.start (get_or (contents c.args.tables.now) c.args.table empty) c.args.at cell copied claim c.line-in-SwapCopy.result
-      c.in-ok-code.ensures.reads (rw c.in-SwapCopy.is) c.in-ok-cell-5.ensures.reads c.in-ok-copied-2.ensures.reads (c.in-ok-claim-3.ensures.reads, refl) (rw c.in-SwapCopy.is c.line-in-SwapCopy.ensures);
-  on = (omega (arith, c.in-ok-code.ensures.on, c.in-ok-cell-5.ensures.on, c.in-ok-copied-2.ensures.on, number_on c.args.part.bytes.now c.in-ok-copied-2.past c.in-ok-claim-3.claim c.in-ok-claim-3.next c.in-ok-claim-3.ensures.reads), c.in-ok-claim-3.ensures.reads.within);
+      c.in_ok-code.ensures.reads (rw c.in-SwapCopy.is) c.in_ok-cell-in-SwapCopy.ensures.reads c.in_ok-copied-in-SwapCopy.ensures.reads (c.in_ok-claim-in-SwapCopy.ensures.reads, refl) (rw c.in-SwapCopy.is c.line-in-SwapCopy.ensures);
+  on = (omega (arith, c.in_ok-code.ensures.on, c.in_ok-cell-in-SwapCopy.ensures.on, c.in_ok-copied-in-SwapCopy.ensures.on, number_on c.args.part.bytes.now c.in_ok-copied-in-SwapCopy.past c.in_ok-claim-in-SwapCopy.claim c.in_ok-claim-in-SwapCopy.next c.in_ok-claim-in-SwapCopy.ensures.reads), c.in_ok-claim-in-SwapCopy.ensures.reads.within);
 }

@@ -7,10 +7,10 @@ use Rattle.record.proofs.tabled.enter.Goals as goal
 
 pub returns-in-Operation : goal.returns-in-Operation
 returns-in-Operation c =
-    let w = c.in-ok-add.ensures in
+    let w = c.in_ok-add.ensures in
     let same = ap (λ (t : Tables). length (get_or (contents t) c.args.table empty).lines) c.tables.ensures.same in (
       w.0,
       w.1,
-      note_line c.args.table (get_or (contents c.args.draft.now.tables) c.args.table empty) c.args.item c.args.claims.now c.line-count.result _ _
-          c.in-Operation.is (c.line-count.ensures ∙ same),
+      note_line c.args.table (get_or (contents c.args.draft.now.tables) c.args.table empty) c.args.item c.args.claims.now c.line_count.result _ _
+          c.in-Operation.is (c.line_count.ensures ∙ same),
     )

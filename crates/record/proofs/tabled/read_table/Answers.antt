@@ -14,9 +14,9 @@ use Rattle.record.proofs.tabled.read_table.Goals as goal
 pub loop-at-init : goal.loop-at-init
 loop-at-init c = ([], none refl refl, omega arith, c.requires.1.0, c.requires.1.1, λ ts l k. kept_new ts _ _ k)
 
-pub returns-in-err-item : goal.returns-in-err-item
-returns-in-err-item c =
-    let p = err_from_is_err_and c.from-residual.result c.from-residual.ensures.1 in
+pub returns-in_err-item : goal.returns-in_err-item
+returns-in_err-item c =
+    let p = err_from_is_err_and c.from_residual.result c.from_residual.ensures.1 in
     let v = c.loop-at.invariant in
     let same = ap (λ (t : Tables). get_or (contents t) c.args.table empty) c.tables.ensures.same ∙ v.4 in
     rw (p.1, p.2) (record {
@@ -24,21 +24,21 @@ returns-in-err-item c =
       at = c.loop-at.at;
       stand = v.1;
       going = λ e. omega arith;
-      stuck = amiss_after c.args.part.bytes.now c.args.part.start _ _ c.loop-at.at _ same c.in-err-item.ensures.reads;
+      stuck = amiss_after c.args.part.bytes.now c.args.part.start _ _ c.loop-at.at _ same c.in_err-item.ensures.reads;
     })
 
 pub loop-at-smaller : goal.loop-at-smaller
-loop-at-smaller c = let h = c.in-ok-item.ensures.on in omega arith
+loop-at-smaller c = let h = c.in_ok-item.ensures.on in omega arith
 
 -- what was read is never refused
-pub returns-in-err-enter : goal.returns-in-err-enter
-returns-in-err-enter c =
+pub returns-in_err-enter : goal.returns-in_err-enter
+returns-in_err-enter c =
     let same = ap (λ (t : Tables). get_or (contents t) c.args.table empty) c.tables.ensures.same in
     let rs = contents c.loop-at.draft.tables in
-    let x = c.in-ok-item.item in
-    let f = item_fits c.args.part.bytes.now c.args.part.start (get_or rs c.args.table empty) c.loop-at.at x c.in-ok-item.next
-    (entry_after c.args.part.bytes.now c.args.part.start _ _ c.loop-at.at x c.in-ok-item.next same c.in-ok-item.ensures.reads) in
-    let e = c.in-err-enter.ensures in
+    let x = c.in_ok-item.item in
+    let f = item_fits c.args.part.bytes.now c.args.part.start (get_or rs c.args.table empty) c.loop-at.at x c.in_ok-item.next
+    (entry_after c.args.part.bytes.now c.args.part.start _ _ c.loop-at.at x c.in_ok-item.next same c.in_ok-item.ensures.reads) in
+    let e = c.in_err-enter.ensures in
     let r = refused_at rs c.args.table x.entry c.requires.0 in
     let z : ◌≡◌ {A = ℕ} 0 1 = cc (e, r, f) in
     absurd (omega arith)
@@ -48,15 +48,15 @@ loop-at-preserved c =
     let v = c.loop-at.invariant in
     let t = c.loop-at.draft.tables in
     let rs = contents t in
-    let x = c.in-ok-item.item in
+    let x = c.in_ok-item.item in
     let same = ap (λ (u : Tables). get_or (contents u) c.args.table empty) c.tables.ensures.same ∙ v.4 in
-    let i = entry_after c.args.part.bytes.now c.args.part.start _ _ c.loop-at.at x c.in-ok-item.next same c.in-ok-item.ensures.reads in
-    let w = c.in-ok-enter.ensures in
+    let i = entry_after c.args.part.bytes.now c.args.part.start _ _ c.loop-at.at x c.in_ok-item.next same c.in_ok-item.ensures.reads in
+    let w = c.in_ok-enter.ensures in
     let l = (good t).tables in
     let free = room (get_or rs c.args.table empty) x.entry (sym (refused_at rs c.args.table x.entry c.requires.0) ∙ w.0) in (
       v.0 ++ x ∷ [],
       more v.1 (λ e. omega arith) i refl,
-      c.in-ok-item.ensures.on.1,
+      c.in_ok-item.ensures.on.1,
       omega (arith, v.3),
       row_added rs (contents c.enter.new.draft.tables) c.args.table v.0 x (omega (arith, c.requires.0, l)) w.1 v.4,
       λ ts n k. kept_more ts c.args.table n c.requires.0 v.0 x rs (contents c.enter.new.draft.tables) c.loop-at.claims c.enter.new.claims free w.1 w.2 (v.5 ts n k),

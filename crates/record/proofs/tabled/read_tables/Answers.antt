@@ -9,43 +9,43 @@ use Rattle.record.proofs.tabled.read_tables.Goals as goal
 pub loop-table-init : goal.loop-table-init
 loop-table-init c = ([], none refl refl, refl, c.requires)
 
-pub read-table-requires : goal.read-table-requires
-read-table-requires c =
+pub read_table-requires : goal.read_table-requires
+read_table-requires c =
     let v = c.loop-table.invariant in
     (omega arith, (v.3.size, not_yet v.0 _ _ c.loop-table.table v.2 v.3))
 
-pub returns-in-err-part : goal.returns-in-err-part
-returns-in-err-part c =
-    let p = err_from_is_err_and c.from-residual.result c.from-residual.ensures.1 in
+pub returns-in_err-part : goal.returns-in_err-part
+returns-in_err-part c =
+    let p = err_from_is_err_and c.from_residual.result c.from_residual.ensures.1 in
     let v = c.loop-table.invariant in
     rw (p.1, p.2) (record {
       front = v.0;
       at = c.loop-table.next;
       stand = v.1;
       going = λ e. omega (arith, v.2);
-      stuck = inl c.in-err-part.ensures;
+      stuck = inl c.in_err-part.ensures;
     })
 
-pub returns-in-err-read-table : goal.returns-in-err-read-table
-returns-in-err-read-table c =
-    let p = err_from_is_err_and c.from-residual-in-err-read-table.result c.from-residual-in-err-read-table.ensures.1 in
+pub returns-in_err-read_table : goal.returns-in_err-read_table
+returns-in_err-read_table c =
+    let p = err_from_is_err_and c.from_residual-in_err-read_table.result c.from_residual-in_err-read_table.ensures.1 in
     let v = c.loop-table.invariant in
     rw (p.1, p.2) (record {
       front = v.0;
       at = c.loop-table.next;
       stand = v.1;
       going = λ e. omega (arith, v.2);
-      stuck = inr ((c.in-ok-part.part.bytes.now, c.in-ok-part.part.start), c.in-ok-part.after, c.in-ok-part.ensures, c.in-err-read-table.ensures);
+      stuck = inr ((c.in_ok-part.part.bytes.now, c.in_ok-part.part.start), c.in_ok-part.after, c.in_ok-part.ensures, c.in_err-read_table.ensures);
     })
 
 pub loop-table-preserved : goal.loop-table-preserved
 loop-table-preserved c =
     let v = c.loop-table.invariant in
-    let t = c.in-ok-read-table.ensures in
+    let t = c.in_ok-read_table.ensures in
     let n = length_push v.0 t.items in (
       v.0 ++ t.items ∷ [],
       more v.1 (λ e. omega (arith, v.2))
-          ((c.in-ok-part.part.bytes.now, c.in-ok-part.part.start), c.in-ok-part.after, c.in-ok-part.ensures, (t.is, refl)) refl,
+          ((c.in_ok-part.part.bytes.now, c.in_ok-part.part.start), c.in_ok-part.after, c.in_ok-part.ensures, (t.is, refl)) refl,
       omega (arith, v.2),
       t.kept v.0 v.2 v.3,
     )

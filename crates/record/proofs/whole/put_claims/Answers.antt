@@ -2,7 +2,7 @@ use Rattle.std.proofs.Common.{◌≡◌, ℕ, ◌+◌, sym, refl, ap, ◌∙◌,
 use Rattle.rules.specs.declared.sheet.Sheet.{Sheet}
 use Rattle.record.proofs.Claims.{PutBelow, put_none, no_claim, a_claim, all_put}
 use Rattle.record.proofs.whole.put_claims.Goals as goal
-use Rattle.record.proofs.whole.put_claims.Goals.{in-Some, in-default}
+use Rattle.record.proofs.whole.put_claims.Goals.{in-Some, in_default}
 
 pub loop-place-init : goal.loop-place-init
 loop-place-init c = (put_none c.args.sheet.now.places.now c.args.claims.now, refl)
@@ -20,9 +20,9 @@ loop-place-preserved c =
             subst (PutBelow before cs (i + 1)) (sym e) (a_claim before cs i cur v.0 w.in-Some.claim w.in-Some.is (omega (arith, v.0.size))),
         ap (λ (s : Sheet ℕ). s.places.ghost_name) w.sheet-is ∙ w.put.ensures.named ∙ v.1,
       )
-      | in-default w ↦ (
+      | in_default w ↦ (
         let e = ap (λ (s : Sheet ℕ). s.places.now) w.sheet-is in
-            subst (PutBelow before cs (i + 1)) (sym e) (no_claim before cs i cur v.0 w.in-default.is),
+            subst (PutBelow before cs (i + 1)) (sym e) (no_claim before cs i cur v.0 w.in_default.is),
         ap (λ (s : Sheet ℕ). s.places.ghost_name) w.sheet-is ∙ v.1,
       )
     ]

@@ -24,15 +24,15 @@ returns-then-size-lt-PLACES c =
       named = refl;
     }
 
-pub read-bytes-requires : goal.read-bytes-requires
-read-bytes-requires c = (kept_none (contents c.emptied-draft.result.tables) c.emptied-draft.ensures, refl)
+pub read_bytes-requires : goal.read_bytes-requires
+read_bytes-requires c = (kept_none (contents c.emptied-draft.result.tables) c.emptied-draft.ensures, refl)
 
-pub returns-in-err-rule : goal.returns-in-err-rule
-returns-in-err-rule c =
-    let p = err_from_is_err_and c.from-residual.result c.from-residual.ensures.1 in
+pub returns-in_err-rule : goal.returns-in_err-rule
+returns-in_err-rule c =
+    let p = err_from_is_err_and c.from_residual.result c.from_residual.ensures.1 in
     rw (p.1, p.2) (record {
       read = record {
-        amiss = no_record c.args.bytes.now (length c.args.sheet.now.places.now) (length c.args.output.now) (omega (arith, c.size.ensures)) c.in-err-rule.ensures;
+        amiss = no_record c.args.bytes.now (length c.args.sheet.now.places.now) (length c.args.output.now) (omega (arith, c.size.ensures)) c.in_err-rule.ensures;
         sheet_kept = refl;
         output_kept = refl;
       };
@@ -42,11 +42,11 @@ returns-in-err-rule c =
 
 pub returns-then-output-count : goal.returns-then-output-count
 returns-then-output-count c =
-    let g = c.in-ok-rule.ensures in
+    let g = c.in_ok-rule.ensures in
     let n = length c.args.sheet.now.places.now in
     let m = length c.args.output.now in
-    let l : length g.said.order ≡ c.in-ok-rule.count =
-    ap length (sym g.order-is) ∙ length-take-le c.in-ok-rule.count c.read-bytes.new.codes (omega (arith, g.few)) in
+    let l : length g.said.order ≡ c.in_ok-rule.count =
+    ap length (sym g.order_is) ∙ length-take-le c.in_ok-rule.count c.read_bytes.new.codes (omega (arith, g.few)) in
     record {
       read = record {
         amiss = subst (λ (k : ℕ). (read_form c.args.bytes.now n m).amiss 0 (OutputShort k)) l
@@ -60,11 +60,11 @@ returns-then-output-count c =
 
 pub returns : goal.returns
 returns c =
-    let g = c.in-ok-rule.ensures in
+    let g = c.in_ok-rule.ensures in
     let n = length c.args.sheet.now.places.now in
     let m = length c.args.output.now in
-    let l : length g.said.order ≡ c.in-ok-rule.count =
-    ap length (sym g.order-is) ∙ length-take-le c.in-ok-rule.count c.read-bytes.new.codes (omega (arith, g.few)) in
+    let l : length g.said.order ≡ c.in_ok-rule.count =
+    ap length (sym g.order_is) ∙ length-take-le c.in_ok-rule.count c.read_bytes.new.codes (omega (arith, g.few)) in
     record {
       read = record {
         said = g.said;
@@ -72,13 +72,13 @@ returns c =
         rule_is = g.rule_is;
         tables_are = kept_tables g.said.tables _ _ (four_tables c.args.bytes.now g.said _ g.is) g.kept;
         claimed = record {
-          size = c.put-claims.ensures.size;
-          words = λ k. c.put-claims.ensures.words k ∙ ap (λ (o : Option ℕ). or_else o (get_or c.args.sheet.now.places.now k 0)) (g.kept.claims k);
+          size = c.put_claims.ensures.size;
+          words = λ k. c.put_claims.ensures.words k ∙ ap (λ (o : Option ℕ). or_else o (get_or c.args.sheet.now.places.now k 0)) (g.kept.claims k);
         };
         counted = sym l;
         fits = omega arith;
-        ordered = c.put-codes.ensures ∙ ap (λ (x : List ℕ). x ++ drop c.in-ok-rule.count c.args.output.now) g.order-is;
+        ordered = c.put_codes.ensures ∙ ap (λ (x : List ℕ). x ++ drop c.in_ok-rule.count c.args.output.now) g.order_is;
       };
       sole = says_one c.args.bytes.now (length c.args.sheet.now.places.now) (length c.args.output.now);
-      named = c.put-claims.ensures.named;
+      named = c.put_claims.ensures.named;
     }

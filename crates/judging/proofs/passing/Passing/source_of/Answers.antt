@@ -11,10 +11,10 @@ source-requires c = record { reads = c.requires; settled = settled c.args.self.n
 
 pub returns : goal.returns
 returns c = λ w.
-    let h = code_if_lem (program unit w (rows_of c.args.self.now)) c.write-of.result c.event-if.result c.event-if.ensures in
+    let h = code_if_lem (program unit w (rows_of c.args.self.now)) c.write_of.result c.event_if.result c.event_if.ensures in
     record {
       line = c.source.result;
       should = c.source.ensures.should w;
-      is = h.0 ∙ c.write-of.ensures.value;
+      is = h.0 ∙ c.write_of.ensures.value;
       of_unit = h.1;
     }

@@ -20,8 +20,8 @@ loop-i-preserved c =
       times_step o c.loop-i.counts j h c.loop-i.invariant.1 code (subst Q (sym q) c.loop-i.invariant.3),
     )
 
-pub overflow-add-counts : goal.overflow-add-counts
-overflow-add-counts c =
+pub overflow_add-counts : goal.overflow_add-counts
+overflow_add-counts c =
     let o = c.args.order.now in
     let j = c.loop-i.i - 1 in
     let h : j < length o = omega arith in

@@ -4,10 +4,10 @@ use Rattle.tables.specs.Contents.{contents}
 use Rattle.machine.proofs.Blanks.{blank_sound, blank_state}
 use Rattle.machine.proofs.machine.Machine.close.Goals as goal
 
-pub invariant-of-result : goal.invariant-of-result
-invariant-of-result c =
-    let s = blank_sound c.into-tables.result in
-    (s.few, (s.room, (s.fits, (s.issued, (s.half, (s.halfway, (s.reading, (s.drained, tt))))))))
+pub invariant_of-result : goal.invariant_of-result
+invariant_of-result c =
+    let s = blank_sound c.into_tables.result in
+    record { few = s.few; room = s.room; fits = s.fits; issued = s.issued; half = s.half; halfway = s.halfway; reading = s.reading; drained = s.drained }
 
 pub returns : goal.returns
-returns c = record { state = blank_state c.into-tables.result; tables = ap (λ (t : Tables). contents t) c.into-tables.ensures.same }
+returns c = record { state = blank_state c.into_tables.result; tables = ap (λ (t : Tables). contents t) c.into_tables.ensures.same }

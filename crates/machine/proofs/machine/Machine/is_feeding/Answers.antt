@@ -10,5 +10,5 @@ pub returns-then-holds : goal.returns-then-holds
 returns-then-holds c =
     let at = cell_at unit (lines_of c.args.self.now) in let s = state_of c.args.self.now in let n = c.args.n in let m = c.args.m in
     let a : eqb c.cell.result c.args.cell ≡ eqb (at m) (at n) =
-    ap (λ (x : ℕ). eqb x c.args.cell) c.cell.ensures ∙ ap (λ (x : ℕ). eqb (at m) x) c.requires.own_val in
+    ap (λ (x : ℕ). eqb x c.args.cell) c.cell.ensures ∙ ap (λ (x : ℕ). eqb (at m) x) c.requires.own in
     a ∙ sym (held_so (s.held m) (earlier unit m n) (eqb (at m) (at n)) (sym c.if-holds.ensures) (earlier_here n m (omega arith) c.requires.inside.1.1))

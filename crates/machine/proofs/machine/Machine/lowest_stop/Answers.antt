@@ -13,13 +13,13 @@ loop-m-init g c =
 pub loop-m-preserved : goal.loop-m-preserved
 loop-m-preserved g c =
     let P = program_of g.R.WaitRule.waits c.args.self.now in let s = state_of c.args.self.now in let n = c.args.n in
-    none_more (stops P s n) c.loop-m.m c.loop-m.invariant (sym c.if-is-stopped.ensures)
+    none_more (stops P s n) c.loop-m.m c.loop-m.invariant (sym c.if-is_stopped.ensures)
 
-pub returns-then-is-stopped : goal.returns-then-is-stopped
+pub returns-then-is_stopped : goal.returns-then-is_stopped
 unfolding places
-returns-then-is-stopped g c =
+returns-then-is_stopped g c =
     let P = program_of g.R.WaitRule.waits c.args.self.now in let s = state_of c.args.self.now in let n = c.args.n in
-    sym (some_here (stops P s n) c.loop-m.m 128 c.loop-m.invariant (sym c.if-is-stopped.ensures) (omega arith))
+    sym (some_here (stops P s n) c.loop-m.m 128 c.loop-m.invariant (sym c.if-is_stopped.ensures) (omega arith))
 
 pub returns : goal.returns
 returns g c =

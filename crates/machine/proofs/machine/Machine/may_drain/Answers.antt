@@ -38,11 +38,11 @@ returns-then-line-lt1 g c =
       | then-line-lt1-via-else-line-lt1+then-line-gt-LINES w ↦ inr w.if-line-gt-LINES.true
     ])
 
-pub returns-in-default : goal.returns-in-default
-returns-in-default g c =
+pub returns-in_default : goal.returns-in_default
+returns-in_default g c =
     let m = c.args.self.now in let p = c.args.processor in let l = c.args.line in
     drain_absent g.R.WaitRule.waits (lines_of m) (state_of m) p l (omega arith) (omega arith) (omega arith) (omega arith)
-    (32 * (p - 1) + (l - 1)) (number_is p l) c.in-default.ensures
+    (32 * (p - 1) + (l - 1)) (number_is p l) c.in_default.ensures
 
 pub returns-then-not-holds : goal.returns-then-not-holds
 returns-then-not-holds g c =
@@ -50,40 +50,40 @@ returns-then-not-holds g c =
     drain_25 g.R.WaitRule.waits (lines_of m) (state_of m) p l (omega arith) (omega arith) (omega arith) (omega arith)
     (32 * (p - 1) + (l - 1)) (number_is p l) c.in-Some.field-0 c.in-Some.ensures c.if-not-holds.ensures
 
-pub returns-in-Some-lowest-stop : goal.returns-in-Some-lowest-stop
+pub returns-in-Some-lowest_stop : goal.returns-in-Some-lowest_stop
 unfolding row
-returns-in-Some-lowest-stop g c =
+returns-in-Some-lowest_stop g c =
     let m = c.args.self.now in let p = c.args.processor in let l = c.args.line in
     drain_26 g.R.WaitRule.waits (lines_of m) (state_of m) p l (omega arith) (omega arith) (omega arith) (omega arith)
     (32 * (p - 1) + (l - 1)) (number_is p l) c.in-Some.field-0 c.in-Some.ensures c.if-not-holds.ensures
-    c.in-Some-lowest-stop.m c.in-Some-lowest-stop.ensures
+    c.in-Some-lowest_stop.m c.in-Some-lowest_stop.ensures
 
-pub returns-then-place-of-n : goal.returns-then-place-of-n
+pub returns-then-place_of-n : goal.returns-then-place_of-n
 unfolding number
-returns-then-place-of-n g c =
+returns-then-place_of-n g c =
     let m = c.args.self.now in let p = c.args.processor in let l = c.args.line in
     let j = c.in-Some-half.swap in
     let q : 2 * place_of j ≡ c.code.result = omega (arith, c.code.ensures.value, m.reading j c.in-Some-half.is) in
     drain_24 g.R.WaitRule.waits (lines_of m) (state_of m) p l (omega arith) (omega arith) (omega arith) (omega arith)
-    (32 * (p - 1) + (l - 1)) (number_is p l) c.in-Some.field-0 c.in-Some.ensures c.if-not-holds.ensures c.in-default-lowest-stop.ensures
-    (place_of j) (ap line_of c.in-Some-half.is) (λ e. c.if-place-of-n.true (c.place-of.ensures ∙ e))
+    (32 * (p - 1) + (l - 1)) (number_is p l) c.in-Some.field-0 c.in-Some.ensures c.if-not-holds.ensures c.in_default-lowest_stop.ensures
+    (place_of j) (ap line_of c.in-Some-half.is) (λ e. c.if-place_of-n.true (c.place_of.ensures ∙ e))
     ∙ ap (λ (x : ℕ). Some (SwapHalfDone x)) q
 
-pub returns-else-place-of-n : goal.returns-else-place-of-n
-returns-else-place-of-n g c =
+pub returns-else-place_of-n : goal.returns-else-place_of-n
+returns-else-place_of-n g c =
     let m = c.args.self.now in let p = c.args.processor in let l = c.args.line in
     let h = ap line_of c.in-Some-half.is in
-    let e = sym c.place-of.ensures ∙ c.if-place-of-n.false in
+    let e = sym c.place_of.ensures ∙ c.if-place_of-n.false in
     drainable g.R.WaitRule.waits m p l (omega arith) (omega arith) (omega arith) (omega arith) c.if-not-holds.ensures
     (drain_free g.R.WaitRule.waits (lines_of m) (state_of m) p l (omega arith) (omega arith) (omega arith) (omega arith)
-    (32 * (p - 1) + (l - 1)) (number_is p l) c.in-Some.field-0 c.in-Some.ensures c.if-not-holds.ensures c.in-default-lowest-stop.ensures
+    (32 * (p - 1) + (l - 1)) (number_is p l) c.in-Some.field-0 c.in-Some.ensures c.if-not-holds.ensures c.in_default-lowest_stop.ensures
     (λ j q. let a : Some (place_of c.in-Some-half.swap) ≡ Some j = sym h ∙ q in let b : place_of c.in-Some-half.swap ≡ j = cc in sym b ∙ e))
 
-pub returns-in-default-half : goal.returns-in-default-half
-returns-in-default-half g c =
+pub returns-in_default-half : goal.returns-in_default-half
+returns-in_default-half g c =
     let m = c.args.self.now in let p = c.args.processor in let l = c.args.line in
-    let h = ap line_of c.in-default-half.is in
+    let h = ap line_of c.in_default-half.is in
     drainable g.R.WaitRule.waits m p l (omega arith) (omega arith) (omega arith) (omega arith) c.if-not-holds.ensures
     (drain_free g.R.WaitRule.waits (lines_of m) (state_of m) p l (omega arith) (omega arith) (omega arith) (omega arith)
-    (32 * (p - 1) + (l - 1)) (number_is p l) c.in-Some.field-0 c.in-Some.ensures c.if-not-holds.ensures c.in-default-lowest-stop.ensures
+    (32 * (p - 1) + (l - 1)) (number_is p l) c.in-Some.field-0 c.in-Some.ensures c.if-not-holds.ensures c.in_default-lowest_stop.ensures
     (λ j q. let a : None ≡ Some j = sym h ∙ q in let z : ◌≡◌ {A = ℕ} 0 1 = cc in let y : ⊥ = omega arith in absurd y))

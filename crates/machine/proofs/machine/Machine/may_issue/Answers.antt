@@ -54,11 +54,11 @@ returns-then-row-ge-LINES g c =
     let m = c.args.self.now in
     issue_far g.R.WaitRule.waits (lines_of m) (state_of m) c.args.room c.args.processor (omega arith) (omega arith) (omega arith) (omega arith)
 
-pub returns-in-default : goal.returns-in-default
-returns-in-default g c =
+pub returns-in_default : goal.returns-in_default
+returns-in_default g c =
     let m = c.args.self.now in let p = c.args.processor in let n = 32 * (p - 1) + get_or m.inner.issued (p - 1) 0 in
     issue_gone g.R.WaitRule.waits (lines_of m) (state_of m) c.args.room p (omega arith) (omega arith) (omega arith)
-    n (next_is g.R.WaitRule.waits m p) c.in-default.ensures
+    n (next_is g.R.WaitRule.waits m p) c.in_default.ensures
 
 pub returns-then-not-reads : goal.returns-then-not-reads
 returns-then-not-reads g c =
@@ -68,20 +68,20 @@ returns-then-not-reads g c =
     n (next_is g.R.WaitRule.waits m p) (omega arith) c.in-Some.line c.in-Some.ensures
     (c.if-not-reads.ensures ∙ ap reads c.kind-kind.ensures))
 
-pub returns-in-Some-lowest-stop : goal.returns-in-Some-lowest-stop
+pub returns-in-Some-lowest_stop : goal.returns-in-Some-lowest_stop
 unfolding row
-returns-in-Some-lowest-stop g c =
+returns-in-Some-lowest_stop g c =
     let m = c.args.self.now in let p = c.args.processor in let n = 32 * (p - 1) + get_or m.inner.issued (p - 1) 0 in
     issue_23 g.R.WaitRule.waits (lines_of m) (state_of m) c.args.room p (omega arith) (omega arith) (omega arith)
     n (next_is g.R.WaitRule.waits m p) (omega arith) c.in-Some.line c.in-Some.ensures
-    c.in-Some-lowest-stop.m (c.if-not-reads.ensures ∙ ap reads c.kind-kind.ensures) c.in-Some-lowest-stop.ensures
+    c.in-Some-lowest_stop.m (c.if-not-reads.ensures ∙ ap reads c.kind-kind.ensures) c.in-Some-lowest_stop.ensures
 
 pub returns-then-not-writes : goal.returns-then-not-writes
 returns-then-not-writes g c =
     let m = c.args.self.now in let p = c.args.processor in let n = 32 * (p - 1) + get_or m.inner.issued (p - 1) 0 in
     issuable g.R.WaitRule.waits m c.args.room p c.in-Some.line (omega arith) (omega arith) (omega arith) c.in-Some.ensures (omega arith)
     (issue_load g.R.WaitRule.waits (lines_of m) (state_of m) c.args.room p (omega arith) (omega arith) (omega arith)
-    n (next_is g.R.WaitRule.waits m p) (omega arith) c.in-Some.line c.in-Some.ensures c.in-default-lowest-stop.ensures
+    n (next_is g.R.WaitRule.waits m p) (omega arith) c.in-Some.line c.in-Some.ensures c.in_default-lowest_stop.ensures
     (c.if-not-writes.ensures ∙ ap writes c.kind-kind.ensures))
 
 pub returns-in-Some-half : goal.returns-in-Some-half
@@ -91,7 +91,7 @@ returns-in-Some-half g c =
     let j = c.in-Some-half.swap in
     let q : 2 * place_of j ≡ c.code.result = omega (arith, c.code.ensures.value, m.reading j c.in-Some-half.is) in
     issue_24 g.R.WaitRule.waits (lines_of m) (state_of m) c.args.room p (omega arith) (omega arith) (omega arith)
-    n (next_is g.R.WaitRule.waits m p) (omega arith) c.in-Some.line c.in-Some.ensures c.in-default-lowest-stop.ensures
+    n (next_is g.R.WaitRule.waits m p) (omega arith) c.in-Some.line c.in-Some.ensures c.in_default-lowest_stop.ensures
     (place_of j) (c.if-not-reads.ensures ∙ ap reads c.kind-kind.ensures) (c.if-not-writes.ensures ∙ ap writes c.kind-kind.ensures)
     (ap line_of c.in-Some-half.is)
     ∙ ap (λ (x : ℕ). Some (SwapHalfDone x)) q
@@ -101,5 +101,5 @@ returns-in-None g c =
     let m = c.args.self.now in let p = c.args.processor in let n = 32 * (p - 1) + get_or m.inner.issued (p - 1) 0 in
     issuable g.R.WaitRule.waits m c.args.room p c.in-Some.line (omega arith) (omega arith) (omega arith) c.in-Some.ensures (omega arith)
     (issue_swap g.R.WaitRule.waits (lines_of m) (state_of m) c.args.room p (omega arith) (omega arith) (omega arith)
-    n (next_is g.R.WaitRule.waits m p) (omega arith) c.in-Some.line c.in-Some.ensures c.in-default-lowest-stop.ensures
+    n (next_is g.R.WaitRule.waits m p) (omega arith) c.in-Some.line c.in-Some.ensures c.in_default-lowest_stop.ensures
     (ap line_of c.in-None.is))

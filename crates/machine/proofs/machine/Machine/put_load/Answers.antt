@@ -13,17 +13,17 @@ append-requires c =
     let z : Sized m.inner = record { marks = omega arith; issued = omega arith; last = omega arith; order = omega arith } in
     issue_room m.inner z (sound m) n (omega arith) c.requires.next
 
-pub invariant-of-self : goal.invariant-of-self
-invariant-of-self c =
+pub invariant_of-self : goal.invariant_of-self
+invariant_of-self c =
     let m = c.args.self.now in let n = c.args.n in
     let z : Sized m.inner = record { marks = omega arith; issued = omega arith; last = omega arith; order = omega arith } in
-    let e : c.set-mark.new.self ≡ after_put_load m.inner z (sound m) n (omega arith) c.requires.next c.code.result = c.set-mark.ensures ∙ ap (λ (i : Inner). marked i c.args.n Done) c.append.ensures in
+    let e : c.set_mark.new.self ≡ after_put_load m.inner z (sound m) n (omega arith) c.requires.next c.code.result = c.set_mark.ensures ∙ ap (λ (i : Inner). marked i c.args.n Done) c.append.ensures in
     let s = subst Sound (sym e) (load_sound m.inner z (sound m) n (omega arith) c.requires.next c.code.result) in
-    (s.few, (s.room, (s.fits, (s.issued, (s.half, (s.halfway, (s.reading, (s.drained, tt))))))))
+    record { few = s.few; room = s.room; fits = s.fits; issued = s.issued; half = s.half; halfway = s.halfway; reading = s.reading; drained = s.drained }
 
 pub returns : goal.returns
 returns c =
     let m = c.args.self.now in let n = c.args.n in
     let z : Sized m.inner = record { marks = omega arith; issued = omega arith; last = omega arith; order = grind arith } in
-    let e : c.set-mark.new.self ≡ after_put_load m.inner z (sound m) n (omega arith) c.requires.next c.code.result = c.set-mark.ensures ∙ ap (λ (i : Inner). marked i c.args.n Done) c.append.ensures in
-    record { state = ap inside e ∙ load_state m.inner z (sound m) n (omega arith) c.requires.next c.code.result (omega (arith, c.code.ensures.value, c.event-of-read.ensures.coded)); tables = ap (λ (i : Inner). contents i.tables) e }
+    let e : c.set_mark.new.self ≡ after_put_load m.inner z (sound m) n (omega arith) c.requires.next c.code.result = c.set_mark.ensures ∙ ap (λ (i : Inner). marked i c.args.n Done) c.append.ensures in
+    record { state = ap inside e ∙ load_state m.inner z (sound m) n (omega arith) c.requires.next c.code.result (omega (arith, c.code.ensures.value, c.event_of-read.ensures.coded)); tables = ap (λ (i : Inner). contents i.tables) e }

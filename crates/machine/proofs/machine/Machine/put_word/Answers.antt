@@ -16,13 +16,13 @@ returns-then-reads g c =
     let m = c.args.self.now in let xs = c.args.sheet.now.places.now in let n = c.args.n in
     let ts = lines_of m in
     let st = stored_at K unit ts in let sh = words_on W.starts (map W.meaning xs) in
-    let w = c.word-from-word.result in
+    let w = c.word_from-word.result in
     let from = source unit (cell_at unit ts) (state_of m) n in
     record {
-      after = ap (map W.meaning) (c.put.ensures.after ∙ ap (λ l. set l n w) c.word-from-word.ensures.same)
+      after = ap (map W.meaning) (c.put.ensures.after ∙ ap (λ l. set l n w) c.word_from-word.ensures.same)
           ∙ put_is W.meaning xs n w (worth st W.starts sh (cell_at unit ts n) from) (reads_at unit ts n)
-          (ap (of_line false line_reads) (sym c.requires.own_val) ∙ sym (ap reads c.kind.ensures) ∙ sym c.if-reads.ensures)
-          (c.word-from-word.ensures.value ∙ ap (λ o. worth st W.starts sh c.args.line.cell o) c.source-of-from.ensures.value
-          ∙ ap (λ (x : ℕ). worth st W.starts sh x from) (ap (of_line 0 (λ l. l.cell)) c.requires.own_val));
-      named = c.put.ensures.named ∙ c.word-from-word.ensures.named;
+          (ap (of_line false line_reads) (sym c.requires.own) ∙ sym (ap reads c.kind.ensures) ∙ sym c.if-reads.ensures)
+          (c.word_from-word.ensures.value ∙ ap (λ o. worth st W.starts sh c.args.line.cell o) c.source_of-from.ensures.value
+          ∙ ap (λ (x : ℕ). worth st W.starts sh x from) (ap (of_line 0 (λ l. l.cell)) c.requires.own));
+      named = c.put.ensures.named ∙ c.word_from-word.ensures.named;
     }

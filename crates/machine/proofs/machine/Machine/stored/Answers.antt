@@ -27,7 +27,7 @@ returns-in-Some g c =
     let xs = c.args.sheet.now.places.now in
     let m = c.args.m in
     let k = c.in-Copied.line in
-    let r = c.saturating-sub.ensures in
+    let r = c.saturating_sub.ensures in
     record {
       value = word_there W.meaning xs (32 * (m / 32) + (k - 1)) c.in-Some.word (W.starts 0)
           (c.in-Some.ensures.value ∙ ap (λ (x : ℕ). nth xs (32 * (m / 32) + x)) r)
@@ -44,7 +44,7 @@ returns-in-None g c =
     let xs = c.args.sheet.now.places.now in
     let m = c.args.m in
     let k = c.in-Copied.line in
-    let r = c.saturating-sub.ensures in
+    let r = c.saturating_sub.ensures in
     record {
       value = c.start.ensures
           ∙ word_missing W.meaning xs (32 * (m / 32) + (k - 1)) (W.starts 0)

@@ -14,13 +14,13 @@ returns-then-i-size g c = record {
 pub returns : goal.returns
 returns g c =
     let xs = c.args.self.now.places.now in
-    let w = c.read-place.result in
+    let w = c.read_place.result in
     let is = nth_at xs c.args.i w (omega arith) in
-    let read = c.read-place.ensures.value w in
+    let read = c.read_place.ensures.value w in
     record {
       value = cc;
       cases = omega arith;
-      inside = λ h d. let at = c.read-place.ensures.value d in cc;
-      same = c.read-place.ensures.same;
+      inside = λ h d. let at = c.read_place.ensures.value d in cc;
+      same = c.read_place.ensures.same;
       named = search rules;
     }

@@ -10,22 +10,15 @@ invariant_of-self c =
     let t = c.args.self.now in
     let ls = vec_items t.lines in
     let x : Line = record { access = c.args.access; cell = c.args.cell; barrier = t.barriers } in
-    let e = sym c.push_reserved.ensures.items in (
-      omega (arith, t.room, c.push_reserved.ensures.capacity),
-      (
-        let q = length_push ls x in let r = ap length c.push_reserved.ensures.items in omega (arith, q, r),
-        (
-          t.bounded,
-          (
-            subst CellsFit e (cells_push ls x t.cells (omega arith)),
-            (
-              subst CopiesFit e (copies_push ls x t.copies (sym c.if-not-names.ensures)),
-              (
-                subst (λ l. BarriersWithin l t.barriers) e (within_push ls x t.within (omega arith)),
-                (subst BarriersRise e (rising_push ls x t.rising t.within), tt),
-              ),
-            ),
-          ),
-        ),
-      ),
-    )
+    let e = sym c.push_reserved.ensures.items in
+    let q = length_push ls x in
+    let r = ap length c.push_reserved.ensures.items in
+    record {
+      room = omega (arith, t.room, c.push_reserved.ensures.capacity);
+      few = omega (arith, q, r);
+      bounded = t.bounded;
+      cells = subst CellsFit e (cells_push ls x t.cells (omega arith));
+      copies = subst CopiesFit e (copies_push ls x t.copies (sym c.if-not-names.ensures));
+      within = subst (λ l. BarriersWithin l t.barriers) e (within_push ls x t.within (omega arith));
+      rising = subst BarriersRise e (rising_push ls x t.rising t.within);
+    }
