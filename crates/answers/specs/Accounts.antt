@@ -1,12 +1,11 @@
 -- What is told of the reads of an order that passes, what an answer says of a case, and which case a record puts.
-use Rattle.std.specs.Prelude.{◌≡◌, ℕ, ◌+◌, true, false, List, [], ◌∷◌, ◌++◌, map, length, replicate, Ok, Err, vec_items, Option, Result, Vec, ◌≢◌}
+use Rattle.std.specs.Prelude.{◌≡◌, ℕ, ◌+◌, true, false, List, [], ◌∷◌, ◌++◌, map, length, replicate, Ok, Err, vec_items, Option, Vec, ◌≢◌}
 use Rattle.tables.specs.Size.{unit, table, row}
 use Rattle.tables.specs.Rows.{Rows}
 use Rattle.tables.specs.View.{copy_at}
 use Rattle.rules.specs.Waits.{Waits}
 use Rattle.model.specs.Program.{Program, program}
 use Rattle.model.specs.Trace.{ReadTrace}
-use Rattle.model.specs.declared.verdict.Verdict.{Verdict}
 use Rattle.model.specs.declared.verdict.Verdict.TheVariants.{Passes as Passing, Broken as BrokenBy}
 use Rattle.std.specs.declared.alloc.Global.{Global}
 use Rattle.judging.specs.declared.passing.Outcome.{Outcome}

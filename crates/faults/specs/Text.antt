@@ -1,5 +1,5 @@
 -- How a fault is printed.
-use Rattle.std.specs.Prelude.{ℕ, List, [], ◌∷◌, ◌++◌, codes, decimal}
+use Rattle.std.specs.Prelude.{ℕ, List, ◌++◌, codes, decimal}
 use Rattle.faults.specs.declared.Layer.{Layer}
 use Rattle.faults.specs.declared.Layer.TheVariants.{Record, Number, Table, Order, Call, Machine}
 use Rattle.faults.specs.declared.Fault.{Fault}

@@ -7,7 +7,6 @@ use Rattle.tables.specs.Lines.{nth, line_reads, line_writes}
 use Rattle.tables.specs.Rows.{Rows, empty}
 use Rattle.tables.specs.View.{line_at, of_line, reads_at, writes_at, is_read, is_write, is_event}
 use Rattle.rules.specs.Waits.{Waits}
-use Rattle.model.proofs.Positions.{place}
 use Rattle.judging.specs.Tests.{waits_here, swaps_here, order_bad, missing, load_bad, wait_bad, swap_bad}
 
 module _ (ts : List Rows) (four : length ts ≡ 4) where

@@ -1,10 +1,10 @@
 -- The axioms by places in the order, which say the same as those by relations.
-use Rattle.std.proofs.Common.{◌≡◌, ℕ, zero, suc, ◌<◌, ◌≤◌, true, false, eqb, ◌⊎◌, List, [], ◌∷◌, Some, None, Option, sym, refl, ◌∙◌, subst, inl, inr, arith}
+use Rattle.std.proofs.Common.{◌≡◌, ℕ, zero, suc, ◌≤◌, true, false, eqb, ◌⊎◌, List, [], ◌∷◌, Some, None, Option, sym, refl, ◌∙◌, subst, inl, inr, arith}
 use Rattle.std.proofs.lemmas.Bool.{cases_eq, eq-eqb, ne_eqb, cond-true, cond-false, cases_lt}
 use Rattle.std.proofs.lemmas.Bool.Decides.{nat_tests}
 use Rattle.tables.specs.Size.{Earlier, rd, wr}
 use Rattle.model.specs.Program.{Program}
-use Rattle.model.specs.Orders.{At, Stands, Precedes, Once, AtMostOnce}
+use Rattle.model.specs.Orders.{At, Precedes, Once, AtMostOnce}
 use Rattle.model.specs.Axioms.{OrderKept, TerminationKept, Follows, later_read, later_write, Awaits, by_write, by_load, Considered, Newest, Should, worth, Meets}
 use Rattle.model.proofs.Positions.{times_some, Inside, times, Before, stands_from, place, place_le, place_same}
 

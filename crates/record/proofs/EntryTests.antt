@@ -1,9 +1,8 @@
 -- What the tests of an entry's numbers say.
-use Rattle.std.proofs.Common.{◌≡◌, ℕ, zero, suc, ◌+◌, ◌-◌, ◌*◌, ◌<◌, ◌≤◌, Bool, true, false, cond, List, [], ◌∷◌, length, get_or, Some, None, Option, sym, refl, ap, ◌∙◌, inl, inr, arith}
+use Rattle.std.proofs.Common.{◌≡◌, ℕ, zero, suc, ◌+◌, ◌-◌, ◌*◌, ◌<◌, ◌≤◌, Bool, true, false, cond, List, [], ◌∷◌, get_or, Some, None, sym, refl, ap, ◌∙◌, inl, inr, arith}
 use Rattle.std.proofs.lemmas.Bool.Decides.{nat_tests}
 use Rattle.std.proofs.lemmas.Bool.{cases_lt}
-use Rattle.faults.specs.declared.Fault.{Fault}
-use Rattle.faults.specs.declared.Fault.TheVariants.{EntryUnknown, TableFull, CellBeyond, CopyAmiss}
+use Rattle.faults.specs.declared.Fault.TheVariants.{EntryUnknown, TableFull, CopyAmiss}
 use Rattle.numbers.specs.Number.{Number}
 use Rattle.tables.specs.declared.line.Line.{Line}
 use Rattle.tables.specs.declared.tables.Tables.{Tables}
@@ -18,7 +17,7 @@ use Rattle.tables.proofs.Goods.{good}
 use Rattle.record.specs.declared.entries.EntryCode.{EntryCode}
 use Rattle.record.specs.declared.entries.EntryCode.TheVariants.{Load, StoreNumber, StoreCopy, SwapNumber, SwapCopy, Barrier}
 use Rattle.record.specs.Entries.{code_of}
-use Rattle.record.specs.Table.{full, code_test, cell_test, copied_test}
+use Rattle.record.specs.Table.{full, code_test, copied_test}
 
 pub number_is : (bytes : List ℕ) (at u v next : ℕ) → u ≡ v → Number bytes at v next → Number bytes at u next
 number_is bytes at u v next e n = rw e n

@@ -1,20 +1,18 @@
 -- An entry that is read may be added to its table.
-use Rattle.std.proofs.Common.{◌≡◌, ℕ, ◌+◌, ◌-◌, ◌<◌, ◌≤◌, Bool, true, false, cond, ltb, leb, List, [], ◌∷◌, length, get_or, Some, None, Option, sym, refl, ap, ◌∙◌, inl, inr, arith, le-leb}
+use Rattle.std.proofs.Common.{◌≡◌, ℕ, ◌+◌, ◌-◌, ◌<◌, Bool, true, false, cond, ltb, leb, List, [], ◌∷◌, length, get_or, Some, None, Option, sym, refl, ap, ◌∙◌, inl, inr, arith, le-leb}
 use Rattle.std.proofs.lemmas.Bool.{cases_lt}
 use Rattle.std.proofs.lemmas.Bool.Decides.{nat_tests}
-use Rattle.faults.specs.declared.Fault.{Fault}
 use Rattle.faults.specs.declared.Fault.TheVariants.{TableFull, CellBeyond, CopyAmiss}
 use Rattle.tables.specs.declared.line.Operand.TheVariants.{Written, Copied}
 use Rattle.tables.specs.declared.line.Access.{Access}
 use Rattle.tables.specs.declared.line.Access.TheVariants.{Load, Store, Swap}
 use Rattle.tables.specs.declared.line.Entry.{Entry}
 use Rattle.tables.specs.declared.line.Entry.TheVariants.{Operation, Barrier}
-use Rattle.tables.specs.Size.{unit, most_barriers, last_cell}
+use Rattle.tables.specs.Size.{unit, last_cell}
 use Rattle.tables.specs.Lines.{names, reading}
 use Rattle.tables.specs.Rows.{Rows, empty, refusal}
 use Rattle.tables.specs.Contents.{refused}
 use Rattle.record.specs.declared.entries.Item.{Item}
-use Rattle.record.specs.Form.{tested}
 use Rattle.record.specs.Entries.{entry_numbers, claim_numbers}
 use Rattle.record.specs.Table.{Role, cell, number, copied, claim, roles, test, code_test, cell_test, copied_test, parts, entry_form}
 use Rattle.record.proofs.Keeping.{Room}

@@ -1,7 +1,6 @@
 -- What is kept, one entry or one table more.
-use Rattle.std.proofs.Common.{◌≡◌, ℕ, zero, suc, ◌+◌, ◌-◌, ◌*◌, ◌<◌, ◌≤◌, Bool, true, false, cond, ◌⊎◌, List, [], ◌∷◌, ◌++◌, map, length, get_or, set, replicate, Some, None, fold, Option, sym, refl, ap, ◌∙◌, subst, inl, inr, append-nil, arith, length-set}
+use Rattle.std.proofs.Common.{◌≡◌, ℕ, zero, suc, ◌+◌, ◌-◌, ◌*◌, ◌<◌, List, [], ◌∷◌, ◌++◌, map, length, get_or, set, replicate, None, fold, Option, sym, refl, ap, ◌∙◌, inl, inr, append-nil, arith, length-set}
 use lib.ListN.{length-map, length-replicate}
-use Rattle.std.specs.List.{flat_map}
 use Rattle.std.proofs.lemmas.List.{length_push, length-append, get_or_append_left, get_or_at, get_or_past, get_or-set_same, get_or-set_other, get_or-map, get_or_default, get_or-replicate, flat_map_more, same_lists}
 use Rattle.std.proofs.lemmas.List.Sums.{fold_push}
 use Rattle.std.proofs.lemmas.Bool.{cases_eq, cases_lt}

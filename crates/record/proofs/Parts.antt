@@ -1,5 +1,5 @@
 -- How an entry stands, and what is amiss with one, number by number.
-use Rattle.std.proofs.Common.{◌≡◌, ℕ, ◌⊎◌, List, [], ◌∷◌, sym, refl, inl, inr}
+use Rattle.std.proofs.Common.{◌≡◌, ℕ, List, [], ◌∷◌, sym, refl, inl, inr}
 use Rattle.faults.specs.declared.Fault.{Fault}
 use Rattle.tables.specs.Rows.{Rows}
 use Rattle.record.specs.declared.entries.Item.{Item}

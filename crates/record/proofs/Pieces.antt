@@ -1,10 +1,10 @@
 -- A whole record, piece by piece.
-use Rattle.std.proofs.Common.{◌≡◌, ℕ, ◌<◌, ◌≤◌, List, length, sym, refl, ap, ◌∙◌, inl, inr, arith, le-leb}
+use Rattle.std.proofs.Common.{◌≡◌, ℕ, ◌<◌, ◌≤◌, List, length, sym, refl, ap, ◌∙◌, inl, inr, le-leb}
 use borrow.Author.Tests.{lt-leb}
 use Rattle.faults.specs.declared.Fault.{Fault}
 use Rattle.faults.specs.declared.Fault.TheVariants.{RecordTooLong, MarkMissing, BytesLeft, SheetShort, OutputShort}
 use Rattle.rules.specs.declared.rule.Rule.{Rule}
-use Rattle.tables.specs.Size.{unit, places}
+use Rattle.tables.specs.Size.{places}
 use Rattle.record.specs.declared.entries.Item.{Item}
 use Rattle.record.specs.Section.{held}
 use Rattle.record.specs.Table.{tables_form}

@@ -1,5 +1,5 @@
 -- A record says one thing.
-use Rattle.std.proofs.Common.{◌≡◌, ℕ, ◌+◌, ◌<◌, ◌≤◌, Bool, true, false, cond, eqb, leb, ◌⊎◌, List, [], ◌∷◌, ◌++◌, length, get_or, take, drop, Some, None, Ok, Err, Option, Result, sym, refl, ap, ◌∙◌, inl, inr, arith}
+use Rattle.std.proofs.Common.{◌≡◌, ℕ, cond, eqb, leb, List, [], ◌∷◌, length, get_or, take, drop, Some, None, Ok, Err, Option, sym, refl, ap, ◌∙◌, inl, inr, arith}
 use Rattle.faults.specs.declared.Fault.{Fault}
 use Rattle.faults.specs.declared.Fault.TheVariants.{RecordTooLong, SheetShort, OutputShort}
 use Rattle.numbers.proofs.Standing.{number_unique, number_faultless, fault_unique}
@@ -13,13 +13,13 @@ use Rattle.rules.specs.declared.rule.Rule.{Rule}
 use Rattle.rules.specs.declared.rule.Rule.TheVariants.{Strong, TotalStoreOrder}
 use Rattle.rules.specs.Rules.{number_of}
 use Rattle.record.specs.declared.entries.Item.{Item}
-use Rattle.record.specs.Form.{Form, demand, say, ◌then◌, inside}
-use Rattle.record.specs.Section.{SectionAt, TooLong, NoSection, section_form, held}
-use Rattle.record.specs.Entries.{claim_numbers, entry_numbers, numbers_of, rows}
+use Rattle.record.specs.Form.{Form, inside}
+use Rattle.record.specs.Section.{SectionAt, NoSection, section_form, held}
+use Rattle.record.specs.Entries.{entry_numbers, numbers_of, rows}
 use Rattle.record.specs.Table.{Role, roles, test, code_test, parts, numbered, entry_form, table_form, tables_form}
 use Rattle.record.specs.Order.{event_test, order_form}
-use Rattle.record.specs.Record.{longest, marked, Ruleless, ruled, ended, Said, record_form, read_form}
-use Rattle.record.specs.Laws.{Says, SaysOne}
+use Rattle.record.specs.Record.{longest, marked, ruled, ended, record_form, read_form}
+use Rattle.record.specs.Laws.{SaysOne}
 use Rattle.record.proofs.Sole.{Sole, sole_say, sole_demand, sole_then, sole_tested, sole_repeated, sole_inside}
 
 module _ (bytes : List ℕ) (at : ℕ) where

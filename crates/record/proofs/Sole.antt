@@ -1,12 +1,10 @@
 -- Where one thing stands, or one fault: each way to make a form keeps this.
-use Rattle.std.proofs.Common.{◌≡◌, ℕ, ◌+◌, ◌<◌, ◌≤◌, Bool, true, false, ◌⊎◌, List, [], ◌∷◌, ◌++◌, length, Some, None, Ok, Err, Result, sym, refl, ap, ◌∙◌, inl, inr, arith, MatchResult}
+use Rattle.std.proofs.Common.{◌≡◌, ℕ, ◌<◌, Bool, true, false, List, length, sym, refl, ap, inl, inr, arith}
 use Rattle.std.proofs.lemmas.Bool.{cases_order, cases_eq}
 use Rattle.std.proofs.lemmas.List.{length_push}
-use Rattle.numbers.specs.Number.{Number}
-use Rattle.numbers.specs.Amiss.{NoNumber}
 use Rattle.numbers.proofs.Standing.{number_unique, number_faultless, fault_unique}
 use Rattle.faults.specs.declared.Fault.{Fault}
-use Rattle.record.specs.Form.{Form, say, demand, ◌then◌, Test, Refused, tested, Run, none, more, Stops, repeated, inside}
+use Rattle.record.specs.Form.{Form, say, demand, ◌then◌, Test, tested, Run, none, more, Stops, repeated, inside}
 
 -- at each place of the form stands one thing, or one fault
 pub record Sole {X : Type 0} (F : Form X) : Type 0 where

@@ -1,10 +1,10 @@
 -- One table of several that is changed.
-use Rattle.std.proofs.Common.{◌≡◌, ℕ, zero, suc, ◌+◌, ◌-◌, ◌<◌, ◌≤◌, Bool, true, false, cond, ltb, List, [], ◌∷◌, map, length, get_or, set, Some, None, Ok, Err, Option, Result, sym, refl, ap, ◌∙◌, arith, MatchResult}
+use Rattle.std.proofs.Common.{◌≡◌, ℕ, ◌-◌, ◌≤◌, List, map, length, get_or, set, Some, None, Ok, Err, Result, sym, ap, ◌∙◌, arith, MatchResult}
 use Rattle.std.proofs.lemmas.List.{map-set, get_or-map, set-get_or}
 use Rattle.faults.specs.declared.Fault.{Fault}
 use Rattle.tables.specs.declared.line.Entry.{Entry}
 use Rattle.tables.specs.declared.table.Table.{Table}
-use Rattle.tables.specs.Rows.{Rows, rows_of, empty, refusal, added}
+use Rattle.tables.specs.Rows.{rows_of, empty, refusal, added}
 use Rattle.tables.specs.Contents.{refused, with_added}
 
 module _ (ts : List Table) (p : ℕ) (e : Entry) (t : Table) (is : t ≡ get_or ts (p - 1) t) (low : 1 ≤ p) (high : p ≤ 4) (four : length ts ≡ 4) where

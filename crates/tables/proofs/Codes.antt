@@ -1,9 +1,9 @@
 -- Events and codes name each other.
-use Rattle.std.proofs.Common.{◌≡◌, ℕ, ◌+◌, ◌-◌, ◌*◌, ◌/◌, ◌%◌, ◌<◌, ◌≤◌, Bool, true, false, cond, eqb, ltb, Some, None, Option, sym, refl, ap, ◌∙◌, arith, lt-ltb, eq-eqb}
+use Rattle.std.proofs.Common.{◌≡◌, ℕ, ◌+◌, ◌-◌, ◌/◌, ◌%◌, ◌<◌, Bool, true, false, cond, eqb, Some, None, refl, ap, ◌∙◌, arith, lt-ltb}
 use Rattle.tables.specs.declared.event.Side.{Side}
 use Rattle.tables.specs.declared.event.Side.TheVariants.{Read, Write}
 use Rattle.tables.specs.declared.event.Event.{Event}
-use Rattle.tables.specs.Size.{Size, number, table, row, places}
+use Rattle.tables.specs.Size.{Size, number, table, row}
 use Rattle.tables.specs.Events.{codes, bit_of, side_of, code_of, event_of, OfUnit}
 use Rattle.tables.proofs.Numbering.{number_table_row, row_below, table_number, row_number, number_below, table_below}
 

@@ -1,5 +1,5 @@
 -- What the struct's invariant gives of all tables together: they are good tables of the unit.
-use Rattle.std.proofs.Common.{◌≡◌, ℕ, zero, suc, ◌+◌, ◌-◌, ◌*◌, ◌/◌, ◌%◌, ◌<◌, ◌≤◌, Bool, true, false, List, [], ◌∷◌, map, length, get_or, take, Some, None, vec_items, Option, sym, refl, ap, ◌∙◌, arith}
+use Rattle.std.proofs.Common.{◌≡◌, ℕ, zero, suc, ◌-◌, ◌<◌, ◌≤◌, true, false, List, [], ◌∷◌, map, length, get_or, take, Some, None, vec_items, Option, sym, refl, ap, ◌∙◌, arith}
 use lib.ListN.{length-map}
 use Rattle.tables.specs.declared.line.Operand.{Operand}
 use Rattle.tables.specs.declared.line.Operand.TheVariants.{Written, Copied}
@@ -10,10 +10,10 @@ use Rattle.tables.specs.declared.table.Table.{Table}
 use Rattle.tables.specs.declared.tables.Tables.{Tables}
 use Rattle.tables.specs.Size.{unit, number, table, row, last_cell}
 use Rattle.tables.specs.Lines.{nth, line_reads, reading, sound, names, CellsFit, CopiesFit}
-use Rattle.tables.specs.Rows.{Rows, rows_of, empty}
+use Rattle.tables.specs.Rows.{rows_of, empty}
 use Rattle.tables.specs.Contents.{contents}
 use Rattle.tables.specs.View.{line_at, of_line, reads_at, operand_of, copied_by, copy_at, Good}
-use Rattle.tables.proofs.Numbering.{number_table_row, row_below, table_number, row_number, number_earlier}
+use Rattle.tables.proofs.Numbering.{row_below, table_number, row_number, number_earlier}
 
 -- the lines of table p
 abbrev lines_of : List Table → ℕ → List Line

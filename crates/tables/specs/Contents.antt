@@ -1,5 +1,5 @@
 -- The contents of all tables, and what adding to one of them does.
-use Rattle.std.specs.Prelude.{ℕ, ◌-◌, Bool, true, false, cond, List, [], ◌∷◌, map, Some, vec_items, Option, nat_lt, slice_index_or, slice_set}
+use Rattle.std.specs.Prelude.{ℕ, ◌-◌, cond, List, [], ◌∷◌, map, Some, vec_items, Option, nat_lt, slice_index_or, slice_set}
 use Rattle.faults.specs.declared.Fault.{Fault}
 use Rattle.faults.specs.declared.Fault.TheVariants.{ProcessorUnknown}
 use Rattle.tables.specs.declared.line.Entry.{Entry}

@@ -1,5 +1,5 @@
 -- Events and their codes, over the size of the unit.
-use Rattle.std.specs.Prelude.{◌≡◌, ℕ, ◌+◌, ◌-◌, ◌*◌, ◌/◌, ◌%◌, ◌<◌, ◌≤◌, cond, List, ◌++◌, Some, None, codes as text, decimal, Option, MatchOption, ◌==◌, nat_lt}
+use Rattle.std.specs.Prelude.{◌≡◌, ℕ, ◌+◌, ◌-◌, ◌*◌, ◌/◌, ◌%◌, ◌≤◌, cond, List, ◌++◌, Some, None, codes as text, decimal, Option, MatchOption, ◌==◌, nat_lt}
 use Rattle.tables.specs.declared.event.Side.{Side}
 use Rattle.tables.specs.declared.event.Side.TheVariants.{Read, Write}
 use Rattle.tables.specs.declared.event.Event.{Event}

@@ -1,11 +1,11 @@
 -- What the axioms and the machine ask of tables: which lines read and write, on which cell, copying what.
-use Rattle.std.specs.Prelude.{◌≡◌, ℕ, ◌-◌, ◌/◌, ◌%◌, ◌<◌, ◌≤◌, Bool, true, false, ◌&&◌, ◌||◌, List, [], length, Some, None, Option, ◌==◌, slice_index_or}
+use Rattle.std.specs.Prelude.{◌≡◌, ℕ, ◌-◌, ◌/◌, ◌%◌, ◌<◌, ◌≤◌, Bool, true, false, ◌&&◌, ◌||◌, List, length, Some, None, Option, ◌==◌, slice_index_or}
 use Rattle.tables.specs.declared.line.Operand.{Operand}
 use Rattle.tables.specs.declared.line.Operand.TheVariants.{Written, Copied}
 use Rattle.tables.specs.declared.line.Access.{Access}
 use Rattle.tables.specs.declared.line.Access.TheVariants.{Load, Store, Swap}
 use Rattle.tables.specs.declared.line.Line.{Line}
-use Rattle.tables.specs.Size.{Size, number, table, row, places}
+use Rattle.tables.specs.Size.{Size, number, table, row}
 use Rattle.tables.specs.Lines.{nth, line_reads, line_writes}
 use Rattle.tables.specs.Rows.{Rows, empty}
 

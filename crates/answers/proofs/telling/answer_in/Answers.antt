@@ -11,4 +11,4 @@ pub returns-in-Ok : goal.returns-in-Ok
 returns-in-Ok c =
     was_read _ _ _ _ _ c.over-sheet.ensures.value refl c.in-Ok.contents.rule _ _ _ c.in-Ok.ensures.read
     (moved c.in-Ok.contents.rule _ _ _ _ _ _ _ (ap contents c.tables.ensures.same)
-    (ap (λ (k : ℕ). take k c.read.new.output) (sub-zero c.in-Ok.contents.count)) refl c.judged-by.ensures.answers)
+    (ap (λ (k : ℕ). take k c.read.new.output) (sub-zero c.in-Ok.contents.count)) refl c.judged_by.ensures.answers)

@@ -1,4 +1,4 @@
-use Rattle.std.proofs.Common.{◌≡◌, ℕ, ◌+◌, ◌<◌, List, [], ◌∷◌, ◌++◌, length, get_or, take, sym, refl, ap, ◌∙◌, append-nil, arith}
+use Rattle.std.proofs.Common.{◌≡◌, ℕ, ◌+◌, ◌<◌, List, [], ◌++◌, length, get_or, take, sym, refl, ap, ◌∙◌, arith}
 use Rattle.std.proofs.lemmas.List.{take_more, take_all, flat_map_more}
 use Rattle.std.specs.List.{flat_map}
 use Rattle.std.proofs.Output.{has_written_append, has_written_of_eq}
@@ -13,7 +13,7 @@ more xs i d h = flat_map_more line_text [] (take i xs) (get_or xs i d) ∙ ap (f
 pub loop-account-preserved : goal.loop-account-preserved
 loop-account-preserved g c p =
     let a = c.loop-account.invariant p in
-    let b = c.in-ok-writeln.ensures.shows a.plain refl in
+    let b = c.in_ok-writeln.ensures.writes a.plain refl in
     has_written_of_eq _ _ _ _ _ (more c.args.accounts.now c.loop-account.account-index _ (omega arith)) (has_written_append _ _ _ _ _ _ a b)
 
 pub returns : goal.returns

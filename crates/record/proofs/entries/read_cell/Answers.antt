@@ -1,4 +1,4 @@
-use Rattle.std.proofs.Common.{◌≡◌, ap, inl, inr, arith, rules}
+use Rattle.std.proofs.Common.{ap, inr, arith}
 use Rattle.std.proofs.lemmas.Bool.Decides.{nat_tests}
 use Rattle.faults.specs.declared.Fault.TheVariants.{CellBeyond}
 use Rattle.record.proofs.entries.read_cell.Goals as goal

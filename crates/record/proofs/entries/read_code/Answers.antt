@@ -1,4 +1,4 @@
-use Rattle.std.proofs.Common.{◌≡◌, get_or, sym, ap, inl, inr, arith}
+use Rattle.std.proofs.Common.{get_or, sym, ap, inr}
 use Rattle.faults.specs.declared.Fault.TheVariants.{EntryUnknown, TableFull}
 use Rattle.tables.specs.Rows.{empty}
 use Rattle.tables.specs.Contents.{contents}

@@ -1,4 +1,4 @@
-use Rattle.std.proofs.Common.{◌≡◌, sym, ap, ◌∙◌, inl, inr, arith}
+use Rattle.std.proofs.Common.{sym, ◌∙◌, inl, inr, arith}
 use Rattle.tables.specs.Contents.{contents}
 use Rattle.record.proofs.EntryTests.{reading_place, reading_beyond}
 use Rattle.record.proofs.entries.reads_line.Goals as goal

@@ -1,4 +1,4 @@
-use Rattle.std.proofs.Common.{◌≡◌, ap, inl, inr, arith}
+use Rattle.std.proofs.Common.{ap, inl, inr, arith}
 use Rattle.faults.specs.declared.Fault.TheVariants.{EventBeyond}
 use Rattle.numbers.proofs.Standing.{number_on}
 use Rattle.record.proofs.Events.{event_beyond, event_passes}

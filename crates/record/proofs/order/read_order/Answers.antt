@@ -1,8 +1,8 @@
-use Rattle.std.proofs.Common.{◌≡◌, length, take, sym, refl, ap, ◌∙◌, inl, inr, arith}
+use Rattle.std.proofs.Common.{◌≡◌, length, take, refl, arith}
 use Rattle.std.proofs.lemmas.Result.{err_from_is_err_and}
 use Rattle.std.proofs.lemmas.List.{length-take-le}
-use Rattle.record.specs.Form.{Run, none, more}
-use Rattle.record.proofs.Events.{Events, amiss_at, one_more, all_read}
+use Rattle.record.specs.Form.{none}
+use Rattle.record.proofs.Events.{amiss_at, one_more, all_read}
 use Rattle.record.proofs.order.read_order.Goals as goal
 
 pub loop-at-init : goal.loop-at-init

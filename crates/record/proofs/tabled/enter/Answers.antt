@@ -1,4 +1,4 @@
-use Rattle.std.proofs.Common.{◌≡◌, length, get_or, sym, refl, ap, ◌∙◌}
+use Rattle.std.proofs.Common.{length, get_or, ap, ◌∙◌}
 use Rattle.tables.specs.declared.tables.Tables.{Tables}
 use Rattle.tables.specs.Rows.{empty}
 use Rattle.tables.specs.Contents.{contents}

@@ -1,10 +1,10 @@
-use Rattle.std.proofs.Common.{◌≡◌, ℕ, List, [], ◌∷◌, ◌++◌, length, get_or, Some, None, sym, refl, ap, ◌∙◌, arith}
+use Rattle.std.proofs.Common.{◌≡◌, ℕ, [], ◌∷◌, ◌++◌, length, get_or, sym, refl, ap, ◌∙◌, arith}
 use Rattle.std.proofs.lemmas.Result.{err_from_is_err_and}
 use Rattle.tables.specs.declared.tables.Tables.{Tables}
 use Rattle.tables.specs.Rows.{empty}
 use Rattle.tables.specs.Contents.{contents}
 use Rattle.tables.proofs.Goods.{good}
-use Rattle.record.specs.Form.{Run, none, more}
+use Rattle.record.specs.Form.{none, more}
 use Rattle.record.proofs.Runs.{run_to}
 use Rattle.record.proofs.Parts.{entry_after, amiss_after}
 use Rattle.record.proofs.Fits.{item_fits, refused_at, room}

@@ -1,4 +1,4 @@
-use Rattle.std.proofs.Common.{◌≡◌, ℕ, ◌-◌, ◌≤◌, List, [], ◌∷◌, ◌++◌, length, get_or}
+use Rattle.std.proofs.Common.{◌≡◌, ◌-◌, ◌≤◌, List, [], ◌∷◌, ◌++◌, length, get_or}
 use Rattle.tables.specs.Rows.{empty}
 use Rattle.tables.specs.Contents.{contents}
 use Rattle.record.specs.declared.entries.Item.{Item}

@@ -1,8 +1,7 @@
-use Rattle.std.proofs.Common.{◌≡◌, ℕ, List, [], ◌∷◌, ◌++◌, length, get_or, sym, refl, ap, ◌∙◌, inl, inr, arith}
+use Rattle.std.proofs.Common.{[], ◌∷◌, ◌++◌, refl, inl, inr, arith}
 use Rattle.std.proofs.lemmas.Result.{err_from_is_err_and}
 use Rattle.std.proofs.lemmas.List.{length_push}
-use Rattle.tables.specs.Contents.{contents}
-use Rattle.record.specs.Form.{Run, none, more}
+use Rattle.record.specs.Form.{none, more}
 use Rattle.record.proofs.Keeping.{not_yet}
 use Rattle.record.proofs.tabled.read_tables.Goals as goal
 

@@ -1,4 +1,4 @@
-use Rattle.std.proofs.Common.{◌≡◌, ℕ, List, length}
+use Rattle.std.proofs.Common.{◌≡◌, List, length}
 use Rattle.tables.specs.Size.{unit}
 use Rattle.tables.specs.Contents.{contents}
 use Rattle.record.specs.declared.entries.Item.{Item}

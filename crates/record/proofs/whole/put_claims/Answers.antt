@@ -1,4 +1,4 @@
-use Rattle.std.proofs.Common.{◌≡◌, ℕ, ◌+◌, sym, refl, ap, ◌∙◌, subst, arith}
+use Rattle.std.proofs.Common.{ℕ, ◌+◌, sym, refl, ap, ◌∙◌, subst, arith}
 use Rattle.rules.specs.declared.sheet.Sheet.{Sheet}
 use Rattle.record.proofs.Claims.{PutBelow, put_none, no_claim, a_claim, all_put}
 use Rattle.record.proofs.whole.put_claims.Goals as goal

@@ -1,6 +1,5 @@
-use Rattle.std.proofs.Common.{◌≡◌, ◌≤◌, length, take, sym, refl, ap, ◌∙◌, inl, inr, arith}
+use Rattle.std.proofs.Common.{take, refl, inl, inr, arith}
 use Rattle.std.proofs.lemmas.Result.{err_from_is_err_and}
-use Rattle.record.specs.Record.{longest, Marked}
 use Rattle.record.proofs.Pieces.{said_so, no_rule, no_tables, no_order, left_over, all_said}
 use Rattle.record.proofs.whole.read_bytes.Goals as goal
 

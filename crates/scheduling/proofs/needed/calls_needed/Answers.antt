@@ -7,15 +7,15 @@ use Rattle.scheduling.proofs.needed.calls_needed.Goals as goal
 pub loop-place-init : goal.loop-place-init
 loop-place-init c = (sym (below_none (contents c.args.tables.now)), omega arith)
 
-pub overflow-add-calls : goal.overflow-add-calls
-overflow-add-calls c = let i = c.loop-place.invariant.1 in let f = c.calls-at-calls.ensures.few in search rules
+pub overflow_add-calls : goal.overflow_add-calls
+overflow_add-calls c = let i = c.loop-place.invariant.1 in let f = c.calls_at-calls.ensures.few in search rules
 
 pub loop-place-preserved : goal.loop-place-preserved
 loop-place-preserved c =
     let i = c.loop-place.invariant in
     let m = below_more (contents c.args.tables.now) c.loop-place.place in (
-      omega (arith, i.0, m, c.calls-at-calls.ensures.value),
-      omega (arith, i.1, c.calls-at-calls.ensures.few),
+      omega (arith, i.0, m, c.calls_at-calls.ensures.value),
+      omega (arith, i.1, c.calls_at-calls.ensures.few),
     )
 
 pub returns : goal.returns

@@ -1,4 +1,4 @@
-use Rattle.std.proofs.Common.{ℕ, ◌+◌, List, [], ◌++◌, length, get_or, ap, ◌∙◌, subst, arith}
+use Rattle.std.proofs.Common.{ℕ, List, [], ◌++◌, length, get_or, ap, ◌∙◌, subst, arith}
 use mathlib.Core.Path.{fun_ext}
 use Rattle.std.proofs.lemmas.List.{length-map}
 use Rattle.numbers.specs.Put.{Put}
@@ -16,8 +16,8 @@ loop-i-init c = (
   put_nothing c.args.output.now 0 (omega arith),
 )
 
-pub make-calls-requires : goal.make-calls-requires
-make-calls-requires c =
+pub make_calls-requires : goal.make_calls-requires
+make_calls-requires c =
     let v = c.loop-i.invariant in
     let o = c.args.order.now in
     let i = c.loop-i.i in
@@ -34,9 +34,9 @@ loop-i-preserved c =
     let f : ℕ → ℕ = issued_by c.loop-i.progress.issued in
     let calls = event_calls f (get_or o i 0) in (
       v.0 ++ calls,
-      scheduled_on f o i c.loop-i-test.true (issued_by c.make-calls.new.self.issued) v.0 c.make-calls.ensures.issued ∙ v.1,
-      put_parts v.0 calls c.args.output.now c.loop-i.output c.make-calls.new.output
-          0 c.loop-i.progress.count c.make-calls.new.self.count v.2 c.make-calls.ensures.written,
+      scheduled_on f o i c.loop-i-test.true (issued_by c.make_calls.new.self.issued) v.0 c.make_calls.ensures.issued ∙ v.1,
+      put_parts v.0 calls c.args.output.now c.loop-i.output c.make_calls.new.output
+          0 c.loop-i.progress.count c.make_calls.new.self.count v.2 c.make_calls.ensures.written,
     )
 
 pub returns : goal.returns

@@ -17,15 +17,15 @@ use Rattle.scheduling.specs.Scheduled.{refused, short}
 use Rattle.scheduling.proofs.Answering.{holds_calls, refused_exactly, broken_exactly, short_exactly, written_exactly}
 use Rattle.scheduling.proofs.schedule.schedule.Goals as goal
 
-pub returns-in-err-axiom : goal.returns-in-err-axiom
-returns-in-err-axiom g c =
-    let p = err_from_is_err_and c.from-residual.result c.from-residual.ensures.1 in
+pub returns-in_err-axiom : goal.returns-in_err-axiom
+returns-in_err-axiom g c =
+    let p = err_from_is_err_and c.from_residual.result c.from_residual.ensures.1 in
     let xs = c.args.sheet.now.places.now in
     let C : Case g.K.WordKind.Meaning =
     case g.R.WaitRule.waits g.K.WordKind.meaning g.K.WordKind.starts g.K.WordKind.writtens
     (contents c.args.tables.now) c.args.order.now xs in
-    let e = c.in-err-axiom.field-0.0 in
-    let j = c.in-err-axiom.ensures in
+    let e = c.in_err-axiom.field-0.0 in
+    let j = c.in_err-axiom.ensures in
     rw (p.1, p.2) (record {
       answer = (refused j.answer, refl);
       exactly = refused_exactly C (length xs) (length c.args.output.now) e (Err e) j.exactly;
@@ -40,12 +40,12 @@ returns-in-Broken g c =
     let xs = c.args.sheet.now.places.now in
     let C : Case g.K.WordKind.Meaning =
     case g.R.WaitRule.waits g.K.WordKind.meaning g.K.WordKind.starts g.K.WordKind.writtens t c.args.order.now xs in
-    let a = c.in-ok-axiom.ensures.answer in
+    let a = c.in_ok-axiom.ensures.answer in
     let b = c.in-Broken in
     record {
       answer = (a.0, (subst (λ (v : Verdict). VerdictOn C v) b.is a.1, refl));
       exactly = broken_exactly C (length xs) (length c.args.output.now) b.axiom b.first b.second (Ok (Fails b.axiom b.first b.second))
-          (λ h k. ap (λ (v : Verdict). Ok v) (sym b.is) ∙ c.in-ok-axiom.ensures.exactly h k);
+          (λ h k. ap (λ (v : Verdict). Ok v) (sym b.is) ∙ c.in_ok-axiom.ensures.exactly h k);
       reached = tt;
       same = c.judge.ensures.same;
       named = c.judge.ensures.named;
@@ -58,20 +58,20 @@ returns-then-output-needed g c =
     let xs = c.args.sheet.now.places.now in
     let C : Case g.K.WordKind.Meaning =
     case w g.K.WordKind.meaning g.K.WordKind.starts g.K.WordKind.writtens t c.args.order.now xs in
-    let a = c.in-ok-axiom.ensures.answer in
-    let n = c.calls-needed-needed.result in
-    let e : n ≡ needed (program unit w t) = c.calls-needed-needed.ensures w in
+    let a = c.in_ok-axiom.ensures.answer in
+    let n = c.calls_needed-needed.result in
+    let e : n ≡ needed (program unit w t) = c.calls_needed-needed.ensures w in
     let l = c.if-output-needed.true in
     record {
-      answer = (short a.0 (subst (λ (v : Verdict). VerdictOn C v) c.in-default.is a.1) (omega (arith, e, l)) (ap (λ (m : ℕ). OutputShort m) e), refl);
+      answer = (short a.0 (subst (λ (v : Verdict). VerdictOn C v) c.in_default.is a.1) (omega (arith, e, l)) (ap (λ (m : ℕ). OutputShort m) e), refl);
       exactly = short_exactly C (length xs) (length c.args.output.now) n e l;
       reached = tt;
       same = c.judge.ensures.same;
       named = c.judge.ensures.named;
     }
 
-pub write-calls-requires : goal.write-calls-requires
-write-calls-requires g c =
+pub write_calls-requires : goal.write_calls-requires
+write_calls-requires g c =
     let t = c.args.tables.now in
     let ts = contents t in
     let w = g.R.WaitRule.waits in
@@ -80,10 +80,10 @@ write-calls-requires g c =
     let xs = c.args.sheet.now.places.now in
     let words = words_on g.K.WordKind.meaning g.K.WordKind.starts xs in
     let C : Case g.K.WordKind.Meaning = case w g.K.WordKind.meaning g.K.WordKind.starts g.K.WordKind.writtens ts o xs in
-    let a = c.in-ok-axiom.ensures.answer in
-    let S : MeetsSix C = subst (λ (v : Verdict). VerdictOn C v) c.in-default.is a.1 in
+    let a = c.in_ok-axiom.ensures.answer in
+    let S : MeetsSix C = subst (λ (v : Verdict). VerdictOn C v) c.in_default.is a.1 in
     let l = schedule_length w g.met.R.WaitRule.ordered K unit ts (good t) o words (a.0.listed, S) in
-    let e : c.calls-needed-needed.result ≡ needed (program unit w ts) = c.calls-needed-needed.ensures w in (
+    let e : c.calls_needed-needed.result ≡ needed (program unit w ts) = c.calls_needed-needed.ensures w in (
       λ i h. event_low ts (good t).tables (get_or o i 0) (events_listed ts w o a.0.listed i h),
       omega (arith, l, e, c.if-output-needed.false),
     )
@@ -98,13 +98,13 @@ returns g c =
     let xs = c.args.sheet.now.places.now in
     let words = words_on g.K.WordKind.meaning g.K.WordKind.starts xs in
     let C : Case g.K.WordKind.Meaning = case w g.K.WordKind.meaning g.K.WordKind.starts g.K.WordKind.writtens ts o xs in
-    let a = c.in-ok-axiom.ensures.answer in
-    let S : MeetsSix C = subst (λ (v : Verdict). VerdictOn C v) c.in-default.is a.1 in
+    let a = c.in_ok-axiom.ensures.answer in
+    let S : MeetsSix C = subst (λ (v : Verdict). VerdictOn C v) c.in_default.is a.1 in
     let l = schedule_length w g.met.R.WaitRule.ordered K unit ts (good t) o words (a.0.listed, S) in
-    let H = holds_calls (program unit w ts) o c.args.output.now c.write-calls.new.output c.write-calls.result l c.write-calls.ensures in
+    let H = holds_calls (program unit w ts) o c.args.output.now c.write_calls.new.output c.write_calls.result l c.write_calls.ensures in
     record {
       answer = (a.0, (S, H));
-      exactly = written_exactly C (length xs) (length c.args.output.now) c.write-calls.result H.all H.room;
+      exactly = written_exactly C (length xs) (length c.args.output.now) c.write_calls.result H.all H.room;
       reached = λ sheet wide. axioms_reached_by_schedule_lem w g.met.R.WaitRule.ordered K unit ts (good t) sheet wide o words (a.0.listed, S);
       same = c.judge.ensures.same;
       named = c.judge.ensures.named;

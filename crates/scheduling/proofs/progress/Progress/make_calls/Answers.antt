@@ -6,9 +6,9 @@ use Rattle.scheduling.specs.Calls.{issued_by, event_calls, codes_of}
 use Rattle.scheduling.proofs.Making.{issues_end, issues_fit, drain_fits, put_write, put_read}
 use Rattle.scheduling.proofs.progress.Progress.make_calls.Goals as goal
 
-pub issue-up-to-requires : goal.issue-up-to-requires
+pub issue_up_to-requires : goal.issue_up_to-requires
 unfolding table row
-issue-up-to-requires c =
+issue_up_to-requires c =
     let is = c.args.self.now.issued in
     let e = c.args.event in
     let l : e / 2 % 32 + 1 - issued_by is (e / 2 / 32) ≤ length (event_calls (issued_by is) e) = issues_fit (issued_by is) e in
@@ -22,11 +22,11 @@ put-requires c =
     let f : ℕ → ℕ = issued_by p.issued in
     let k = e / 2 % 32 + 1 - issued_by p.issued (e / 2 / 32) in
     let out = c.args.output.now in
-    let out₁ = c.issue-up-to.new.output in
-    let w = c.issue-up-to.ensures.written in
+    let out₁ = c.issue_up_to.new.output in
+    let w = c.issue_up_to.ensures.written in
     let l : k < length (event_calls f e) = drain_fits f e c.if-event-eq1.true in
-    let n = issues_end k (e / 2 / 32) out out₁ p.count c.issue-up-to.new.self.count w in
-    let s = put_length (codes_of (fill k (e / 2 / 32))) out p.count c.issue-up-to.new.self.count out₁ w in
+    let n = issues_end k (e / 2 / 32) out out₁ p.count c.issue_up_to.new.self.count w in
+    let s = put_length (codes_of (fill k (e / 2 / 32))) out p.count c.issue_up_to.new.self.count out₁ w in
     omega (arith, c.requires.1, l, n, s)
 
 pub returns-then-event-eq1 : goal.returns-then-event-eq1
@@ -35,10 +35,10 @@ returns-then-event-eq1 c =
     let p = c.args.self.now in
     let f : ℕ → ℕ = issued_by p.issued in
     record {
-      written = put_write f c.args.event c.args.output.now c.issue-up-to.new.output c.put.new.output
-          p.count c.issue-up-to.new.self.count c.put.new.self.count c.if-event-eq1.true
-          c.issue-up-to.ensures.written c.put.ensures.written;
-      issued = λ q. ap (λ (is : List ℕ). issued_by is q) c.put.ensures.issued ∙ c.issue-up-to.ensures.issued q;
+      written = put_write f c.args.event c.args.output.now c.issue_up_to.new.output c.put.new.output
+          p.count c.issue_up_to.new.self.count c.put.new.self.count c.if-event-eq1.true
+          c.issue_up_to.ensures.written c.put.ensures.written;
+      issued = λ q. ap (λ (is : List ℕ). issued_by is q) c.put.ensures.issued ∙ c.issue_up_to.ensures.issued q;
     }
 
 pub returns-else-event-eq1 : goal.returns-else-event-eq1
@@ -47,7 +47,7 @@ returns-else-event-eq1 c =
     let p = c.args.self.now in
     let f : ℕ → ℕ = issued_by p.issued in
     record {
-      written = put_read f c.args.event c.args.output.now c.issue-up-to.new.output
-          p.count c.issue-up-to.new.self.count c.if-event-eq1.false c.issue-up-to.ensures.written;
-      issued = c.issue-up-to.ensures.issued;
+      written = put_read f c.args.event c.args.output.now c.issue_up_to.new.output
+          p.count c.issue_up_to.new.self.count c.if-event-eq1.false c.issue_up_to.ensures.written;
+      issued = c.issue_up_to.ensures.issued;
     }

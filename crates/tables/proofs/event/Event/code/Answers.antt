@@ -1,4 +1,4 @@
-use Rattle.std.proofs.Common.{◌≡◌, ℕ, ◌+◌, ◌*◌, sym, ap, ◌∙◌, arith}
+use Rattle.std.proofs.Common.{◌≡◌, ◌+◌, ◌*◌, ap, ◌∙◌, arith}
 use Rattle.tables.specs.Size.{unit, number}
 use Rattle.tables.specs.Events.{code_of, event_of}
 use Rattle.tables.proofs.Codes.{code_back}

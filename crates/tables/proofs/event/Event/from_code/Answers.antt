@@ -1,8 +1,7 @@
-use Rattle.std.proofs.Common.{◌≡◌, ℕ, ◌+◌, ◌/◌, ◌%◌, ◌<◌, Some, sym, refl, ap, ◌∙◌, subst, arith, rules}
+use Rattle.std.proofs.Common.{◌≡◌, ℕ, ◌+◌, ◌/◌, ◌%◌, ◌<◌, Some, sym, subst, arith, rules}
 use Rattle.tables.specs.declared.event.Side.{Side}
-use Rattle.tables.specs.declared.event.Event.{Event}
 use Rattle.tables.specs.Size.{unit, number, table, row, places}
-use Rattle.tables.specs.Events.{codes, side_of, code_of, event_of, OfUnit, Named}
+use Rattle.tables.specs.Events.{codes, side_of, event_of, Named}
 use Rattle.tables.proofs.Codes.{made, code_named, code_of_named, event_is}
 use Rattle.tables.proofs.event.Event.from_code.Goals as goal
 

@@ -1,4 +1,4 @@
-use Rattle.std.proofs.Common.{◌≡◌, length, vec_items, sym, ap, subst, arith}
+use Rattle.std.proofs.Common.{length, vec_items, sym, ap, subst, arith}
 use Rattle.std.proofs.lemmas.List.{length_push}
 use Rattle.tables.specs.declared.line.Line.{Line}
 use Rattle.tables.specs.Lines.{CellsFit, CopiesFit, BarriersWithin, BarriersRise}

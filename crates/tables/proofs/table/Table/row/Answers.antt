@@ -1,4 +1,4 @@
-use Rattle.std.proofs.Common.{◌≡◌, Some, vec_items, sym, ap, ◌∙◌, arith}
+use Rattle.std.proofs.Common.{Some, vec_items, sym, ap, ◌∙◌, arith}
 use Rattle.tables.specs.declared.line.Line.{Line}
 use Rattle.tables.proofs.Pushes.{nth_past, nth_at}
 use Rattle.tables.proofs.table.Table.row.Goals as goal

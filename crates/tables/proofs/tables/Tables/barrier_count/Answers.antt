@@ -1,4 +1,4 @@
-use Rattle.std.proofs.Common.{◌≡◌, vec_items, sym, ap, ◌∙◌, arith}
+use Rattle.std.proofs.Common.{vec_items, sym, ap, ◌∙◌, arith}
 use Rattle.tables.specs.Rows.{Rows}
 use Rattle.tables.proofs.Counts.{rows_past, rows_at}
 use Rattle.tables.proofs.tables.Tables.barrier_count.Goals as goal

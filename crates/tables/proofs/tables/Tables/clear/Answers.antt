@@ -1,4 +1,4 @@
-use Rattle.std.proofs.Common.{◌≡◌, vec_items, sym, ap, ◌∙◌, arith}
+use Rattle.std.proofs.Common.{vec_items, arith}
 use lib.ListN.{length-map}
 use Rattle.tables.specs.Rows.{rows_of}
 use Rattle.tables.specs.Contents.{contents}
