@@ -7,9 +7,10 @@ crates="faults tables rules model machine"
 work=$(mktemp -d)
 trap 'rm -rf "$work"' EXIT
 
-# Writes the crates as one to a folder, with a function that has this body.
+# Writes the crates as one to a folder of crates, with a function that has this body.
 join() { # FOLDER BODY
     mkdir -p "$1/src"
+    echo "$(basename "$1"):" >"$1/../../crates.txt"
     for crate in $crates; do
         cp -r "crates/$crate/src" "$1/src/unit_$crate"
         mv "$1/src/unit_$crate/lib.rt" "$1/src/unit_$crate.rt"
@@ -24,8 +25,6 @@ join() { # FOLDER BODY
 use crate::unit_machine::machine::Machine;
 use crate::unit_rules::sheet::Sheet;
 use crate::unit_rules::wait::Strong;
-use crate::unit_rules::wait::StrongWaits;
-use crate::unit_rules::words::NumberWordKind;
 use crate::unit_rules::words::NumberWords;
 use crate::unit_tables::draft::Draft;
 use crate::unit_tables::line::Entry;
@@ -37,11 +36,15 @@ EOF
 }
 
 # Prints the kinds of error, each once, that the compiler finds in the crates with such a function. The proofs, which are not
-# there, have errors of no kind.
+# there, have errors of no kind; where it finds nothing else, those show that it came so far.
 errors() { # NAME BODY
-    join "$work/$1" "$2"
-    rt check "$work/$1" >"$work/$1.log" 2>&1 || true
-    { grep -o 'error\[[a-z0-9-]*\]' "$work/$1.log" || true; } | sort -u | tr '\n' ' '
+    join "$work/$1/crates/$1" "$2"
+    (cd "$work/$1/crates/$1" && rt check) >"$work/$1.log" 2>&1 || true
+    kinds=$(grep -o 'error\[[a-z0-9-]*\]' "$work/$1.log" | sort -u | tr '\n' ' ') || true
+    if [ -z "$kinds" ] && ! grep -q 'is not a library that a `ghost use` can import from' "$work/$1.log"; then
+        kinds="no answer"
+    fi
+    printf '%s' "$kinds"
 }
 
 expect() { # NAME ERRORS BODY

@@ -1,10 +1,10 @@
 // Waiting rules: which later line of a table must wait for an earlier line's store.
-ghost use Rattle.std.specs.Prelude.{◌≡◌, ℕ, true, not, ◌||◌, ◌==◌};
+ghost use Rattle.std.specs.Prelude.{◌≡◌, ℕ, Bool, true, not, ◌||◌, ◌==◌, refl};
 ghost use Rattle.tables.specs.Lines.{writes};
 ghost use Rattle.rules.specs.declared.rule.Rule.{Rule};
 ghost use Rattle.rules.specs.Rules.{number_of};
+ghost use Rattle.std.proofs.Common.{ap};
 ghost use Rattle.rules.specs.Waits.{Waits, mark_of, KeepsWrites};
-ghost use Rattle.std.proofs.Common.{rules};
 
 use tables::line::Line;
 
@@ -39,7 +39,7 @@ impl WaitRule for Strong {
 
     ghost waits = { λ _ _. true };
 
-    ghost ordered = { Prim.search rules };
+    ghost ordered = { λ _ _ _ _ _. refl };
 
     fn shown_number() -> u32 {
         Self::NUMBER
@@ -61,7 +61,7 @@ impl WaitRule for TotalStoreOrder {
 
     ghost waits = { λ p q. writes q.kind || not (p.barrier == q.barrier) };
 
-    ghost ordered = { Prim.search rules };
+    ghost ordered = { λ p q _ later_writes _. ap (λ (b : Bool). b || not (p.barrier == q.barrier)) later_writes };
 
     fn shown_number() -> u32 {
         Self::NUMBER
