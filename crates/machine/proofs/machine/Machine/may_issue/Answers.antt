@@ -74,7 +74,7 @@ returns-in-Some-lowest_stop g c =
     let m = c.args.self.now in let p = c.args.processor in let n = 32 * (p - 1) + get_or m.inner.issued (p - 1) 0 in
     issue_23 g.R.WaitRule.waits (lines_of m) (state_of m) c.args.room p (omega arith) (omega arith) (omega arith)
     n (next_is g.R.WaitRule.waits m p) (omega arith) c.in-Some.line c.in-Some.ensures
-    c.in-Some-lowest_stop.m (c.if-not-reads.ensures ∙ ap reads c.kind-kind.ensures) c.in-Some-lowest_stop.ensures
+    c.in-Some-lowest_stop.m (let kind = ap reads c.kind-kind.ensures in cc) c.in-Some-lowest_stop.ensures
 
 pub returns-then-not-writes : goal.returns-then-not-writes
 returns-then-not-writes g c =

@@ -10,4 +10,7 @@ returns-then-row-len c = sym (reading_past (vec_items c.args.self.now.lines) c.a
 pub returns : goal.returns
 returns c =
     let ls = vec_items c.args.self.now.lines in
-    c.reads.ensures ∙ ap reads c.kind.ensures ∙ ap (λ (l : Line). line_reads l) c.index.ensures ∙ sym (reading_at ls c.args.line c.index.result.now (omega arith) (omega arith))
+    let kind = ap reads c.kind.ensures in
+    let read = ap (λ (l : Line). line_reads l) c.index.ensures in
+    let at = reading_at ls c.args.line c.index.result.now (omega arith) (omega arith) in
+    cc
