@@ -94,13 +94,13 @@ module _ {X : Type 0} (Item : List X → Form X) (Done : List X → ℕ → Type
       (cc (e, h, z.0, o.0), o.1)
 
   -- a run that is longer went on where the shorter one ends
-  Goes_on : List X → ℕ → Type 0
-  Goes_on f p = (x : X) × (m : ℕ) × (Done f p → ⊥) × (Item f).is p x m
+  GoesOn : List X → ℕ → Type 0
+  GoesOn f p = (x : X) × (m : ℕ) × (Done f p → ⊥) × (Item f).is p x m
 
   stage :
       (f : List X) (p n : ℕ) → Run Item Done start f p → n < length f
-      → (b : List X) × (q : ℕ) × Run Item Done start b q × (length b ≡ n) × Goes_on b q
-  unfolding Goes_on
+      → (b : List X) × (q : ℕ) × Run Item Done start b q × (length b ≡ n) × GoesOn b q
+  unfolding GoesOn
   stage f p n (none e a) h = absurd (omega (arith, ap length e))
   stage f p n (more {before = u} {q = k} {x = x} r c i e) h =
       elim (cases_eq n (length u)) [
@@ -108,12 +108,12 @@ module _ {X : Type 0} (Item : List X → Form X) (Done : List X → ℕ → Type
         | inr w ↦ stage u k n r (omega (arith, ap length e, length_push u x, w))
       ]
 
-  goes_at : (f g : List X) (p q : ℕ) → f ≡ g → p ≡ q → Goes_on g q → Goes_on f p
+  goes_at : (f g : List X) (p q : ℕ) → f ≡ g → p ≡ q → GoesOn g q → GoesOn f p
   goes_at f g p q e h k = rw (e, h) k
 
   meet :
       (f g : List X) (p q : ℕ) → Run Item Done start f p → Run Item Done start g q
-      → (Goes_on f p → ⊥) → (Goes_on g q → ⊥) → (f ≡ g) × (p ≡ q)
+      → (GoesOn f p → ⊥) → (GoesOn g q → ⊥) → (f ≡ g) × (p ≡ q)
   meet f g p q r s a b =
       elim (cases_order (length f) (length g)) [
         | inl e ↦ same_long f g p q r s e
@@ -127,12 +127,12 @@ module _ {X : Type 0} (Item : List X → Form X) (Done : List X → ℕ → Type
         ]
       ]
 
-  done_ends : (f : List X) (p : ℕ) → Done f p → Goes_on f p → ⊥
-  unfolding Goes_on
+  done_ends : (f : List X) (p : ℕ) → Done f p → GoesOn f p → ⊥
+  unfolding GoesOn
   done_ends f p d k = k.2 d
 
-  stuck_ends : (f : List X) (p : ℕ) (e : Fault) → (Item f).amiss p e → Goes_on f p → ⊥
-  unfolding Goes_on
+  stuck_ends : (f : List X) (p : ℕ) (e : Fault) → (Item f).amiss p e → GoesOn f p → ⊥
+  unfolding GoesOn
   stuck_ends f p e s k = (each f).apart p k.0 k.1 e k.3 s
 
   pub filled_once :

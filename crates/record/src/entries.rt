@@ -1,5 +1,5 @@
 // A table's entry in a section: its code, and the numbers that follow it.
-ghost use Rattle.std.specs.Prelude.{◌≡◌, ℕ, ◌+◌, ◌<◌, ◌≤◌, length, get_or, IfOk, MatchOption, MatchResult, slice_index_or};
+ghost use Rattle.std.specs.Prelude.{◌≡◌, ℕ, ◌+◌, ◌<◌, ◌≤◌, length, IfOk, MatchOption, MatchResult, slice_index_or};
 ghost use Rattle.tables.specs.declared.line.Entry.TheVariants.{Operation};
 ghost use Rattle.tables.specs.Lines.{reading};
 ghost use Rattle.tables.specs.Rows.{empty};
@@ -68,7 +68,7 @@ impl EntryCode {
 // Whether the table has a line of this number, counted from 1, and it reads.
 fn reads_line(tables: &Tables, table: usize, line: u32) -> bool
     requires { table < 4 }
-    ensures { result ≡ reading (get_or (contents tables.now) table empty).lines line }
+    ensures { result ≡ reading (slice_index_or (contents tables.now) table empty).lines line }
 {
     let line = line as usize;
     if line == 0 || line > LINES {

@@ -66,7 +66,7 @@ returns-then-place_of-n g c =
     let q : 2 * place_of j ≡ c.code.result = omega (arith, c.code.ensures.value, m.reading j c.in-Some-half.is) in
     drain_24 g.R.WaitRule.waits (lines_of m) (state_of m) p l (omega arith) (omega arith) (omega arith) (omega arith)
     (32 * (p - 1) + (l - 1)) (number_is p l) c.in-Some.field-0 c.in-Some.ensures c.if-not-holds.ensures c.in_default-lowest_stop.ensures
-    (place_of j) (ap line_of c.in-Some-half.is) (λ e. c.if-place_of-n.true (c.place_of.ensures ∙ e))
+    (place_of j) (ap line_of c.in-Some-half.is) (λ e. omega arith)
     ∙ ap (λ (x : ℕ). Some (SwapHalfDone x)) q
 
 pub returns-else-place_of-n : goal.returns-else-place_of-n
