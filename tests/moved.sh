@@ -10,7 +10,7 @@ trap 'rm -rf "$work"' EXIT
 # Writes the crates as one to a folder of crates, with a function that has this body.
 join() { # FOLDER BODY
     mkdir -p "$1/src"
-    echo "$(basename "$1"):" >"$1/../../crates.txt"
+    echo "$(basename "$1"): arrayvec" >"$1/../../crates.txt"
     for crate in $crates; do
         cp -r "crates/$crate/src" "$1/src/unit_$crate"
         mv "$1/src/unit_$crate/lib.rt" "$1/src/unit_$crate.rt"

@@ -1,18 +1,13 @@
 -- What is told of the reads of an order that passes, what an answer says of a case, and which case a record puts.
-use Rattle.std.specs.Prelude.{◌≡◌, ℕ, ◌+◌, true, false, List, [], ◌∷◌, ◌++◌, map, length, replicate, Ok, Err, vec_items, Option, Vec, ◌≢◌}
+use Rattle.std.specs.Prelude.{◌≡◌, ℕ, ◌+◌, true, false, List, [], ◌∷◌, ◌++◌, map, length, replicate, Ok, Err, vec_items, Option}
 use Rattle.tables.specs.Size.{unit, table, row}
 use Rattle.tables.specs.Rows.{Rows}
 use Rattle.tables.specs.View.{copy_at}
 use Rattle.rules.specs.Waits.{Waits}
 use Rattle.model.specs.Program.{Program, program}
 use Rattle.model.specs.Trace.{ReadTrace}
-use Rattle.model.specs.declared.verdict.Verdict.TheVariants.{Passes as Passing, Broken as BrokenBy}
-use Rattle.std.specs.declared.alloc.Global.{Global}
-use Rattle.judging.specs.declared.passing.Outcome.{Outcome}
-use Rattle.judging.specs.declared.passing.Outcome.TheVariants.{Broken as Fails, Passed}
-use Rattle.judging.specs.declared.passing.Passing.{Passing as PassingOrder}
 use Rattle.judging.specs.Case.{Case, case, Answered}
-use Rattle.judging.specs.Outcomes.{ReadsFrom, rows_of, order_of}
+use Rattle.judging.specs.Outcomes.{ReadsFrom}
 use Rattle.faults.specs.declared.Fault.{Fault}
 use Rattle.record.specs.Entries.{rows}
 use Rattle.record.specs.Record.{Said, read_form, Claimed}
@@ -41,16 +36,11 @@ pub data Accounts (P : Program) (copy : ℕ → Option ℕ) (o : List ℕ) : ℕ
 abbrev pub AllAccounts : Waits → List Rows → List ℕ → List Account → Type 0
 AllAccounts w ts o xs = Accounts (program unit w ts) (copy_at unit ts) o 128 xs
 
--- an answer tells of an order that was judged: the broken verdict, or an account of each read
-abbrev pub Told : Outcome PassingOrder → Answer → Type 0
-Told (Fails a e f) r = r ≡ Broken (BrokenBy a e f)
-Told (Passed p) r = (xs : Vec Account Global) × (r ≡ Passes xs) × ((w : Waits) → AllAccounts w (rows_of p) (order_of p) (vec_items xs))
-
 -- an answer says what the judge answers to a case with a sheet of so many places; where it passes, with an account of each read
 abbrev pub Answers : {M : Type 0} → Case M → ℕ → Waits → List Rows → List ℕ → Answer → Type 0
-Answers c size w ts o (Refused e) = Answered c size (Err e)
-Answers c size w ts o (Broken v) = Answered c size (Ok v) × (v ≢ Passing)
-Answers c size w ts o (Passes xs) = Answered c size (Ok Passing) × AllAccounts w ts o (vec_items xs)
+Answers c size w ts o (Refused e) = Answered c {T = Unit {0}} size (Err e)
+Answers c size w ts o (Broken b) = Answered c {T = Unit {0}} size (Ok (Err b))
+Answers c size w ts o (Passes xs) = Answered c {T = Unit {0}} size (Ok (Ok tt)) × AllAccounts w ts o (vec_items xs)
 
 -- the same of tables, an order and number words
 abbrev pub AnswersTo : Waits → List Rows → List ℕ → List ℕ → Answer → Type 0

@@ -7,12 +7,11 @@ ghost use Rattle.rules.specs.Waits.{Waits};
 ghost use Rattle.answers.specs.Ruling.{waits_of};
 ghost use Rattle.model.specs.Program.{program};
 ghost use Rattle.judging.specs.Outcomes.{rows_of, order_of};
-ghost use Rattle.answers.specs.Accounts.{AccountOf, AllAccounts, Told, AnswersTo, AnswersBytes};
+ghost use Rattle.answers.specs.Accounts.{AccountOf, AllAccounts, AnswersTo, AnswersBytes};
 
 use crate::text::{Account, Answer};
+use judging::passing::Passing;
 use judging::passing::asks::pass;
-use judging::passing::{Outcome, Passing};
-use model::verdict::Verdict;
 use record::read;
 use rules::rule::Rule;
 use rules::sheet::Sheet;
@@ -71,6 +70,7 @@ fn judged_by<'a>(
     }
 }
 
+// The answer for what the judge says of it.
 fn judged<'a, R: WaitRule>(
     tables: &'a Tables,
     rule: &R,
@@ -84,20 +84,8 @@ fn judged<'a, R: WaitRule>(
 {
     match pass(tables, rule, &NumberWords, order, sheet) {
         Err(fault) => Answer::Refused(fault),
-        Ok(outcome) => answered(outcome, accounts),
-    }
-}
-
-// The answer for an order that was judged.
-fn answered(outcome: Outcome<Passing>, accounts: Vec<Account>) -> Answer
-    requires { 128 ≤ vec_capacity accounts }
-    ensures { Told outcome.entry result }
-{
-    match outcome {
-        Outcome::Broken(axiom, first, second) => Answer::Broken(Verdict::Broken(
-            axiom, first, second,
-        )),
-        Outcome::Passed(passing) => Answer::Passes(told(&passing, accounts)),
+        Ok(Err(breach)) => Answer::Broken(breach),
+        Ok(Ok(passing)) => Answer::Passes(told(&passing, accounts)),
     }
 }
 
@@ -107,6 +95,7 @@ fn told(passing: &Passing, mut accounts: Vec<Account>) -> Vec<Account>
     ensures { (w : Waits) → AllAccounts w (rows_of passing.now) (order_of passing.now) result.items }
 {
     accounts.clear();
+    // No `extend`, which may ask for memory and so may fail.
     for place in 0..PLACES {
         if let Some(account) = told_of(passing, place) {
             accounts.push_reserved(account);

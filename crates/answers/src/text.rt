@@ -5,7 +5,8 @@ ghost use Rattle.std.specs.Fmt.{WritesOnOk};
 ghost use Rattle.answers.specs.Text.{account_text, line_text, answer_text};
 
 use faults::Fault;
-use model::verdict::{End, Verdict};
+use model::verdict::Breach;
+use rules::words::Origin;
 use std::fmt;
 use tables::event::Event;
 
@@ -15,14 +16,14 @@ pub struct Account {
     pub processor: u8,
     pub line: u8,
     pub source: Option<Event>,
-    pub end: End,
+    pub end: Origin,
 }
 
 /// The answer to a record: it is refused, its order breaks an axiom, or it passes, with its reads in table order.
 #[derive(Drop)]
 pub enum Answer {
     Refused(Fault),
-    Broken(Verdict),
+    Broken(Breach),
     Passes(Vec<Account>),
 }
 
@@ -31,10 +32,13 @@ impl fmt::Display for Account {
     ghost output = { λ a. Some (account_text a) };
 
     fn fmt<W: fmt::Write>(&self, f: &mut fmt::Formatter<W>) -> fmt::Result {
-        let processor = self.processor;
-        let line = self.line;
-        let end = self.end;
-        match self.source {
+        let Account {
+            processor,
+            line,
+            source,
+            end,
+        } = self;
+        match source {
             Some(write) => write!(f, "{processor}.{line} from {write} by {end}"),
             None => write!(f, "{processor}.{line} from start by {end}"),
         }
@@ -46,7 +50,6 @@ fn show_all<W: fmt::Write>(accounts: &[Account], f: &mut fmt::Formatter<W>) -> f
     ensures { WritesOnOk W.Write.write_str_gives f.old result (flat_map line_text accounts.now) f.new }
 {
     for account in accounts {
-        let account = *account;
         writeln!(f, "{account}")?;
     }
     Ok(())
@@ -58,14 +61,8 @@ impl fmt::Display for Answer {
 
     fn fmt<W: fmt::Write>(&self, f: &mut fmt::Formatter<W>) -> fmt::Result {
         match self {
-            Answer::Refused(fault) => {
-                let fault = *fault;
-                writeln!(f, "refused {fault}")
-            }
-            Answer::Broken(verdict) => {
-                let verdict = *verdict;
-                writeln!(f, "{verdict}")
-            }
+            Answer::Refused(fault) => writeln!(f, "refused {fault}"),
+            Answer::Broken(breach) => writeln!(f, "{breach}"),
             Answer::Passes(accounts) => {
                 writeln!(f, "passes")?;
                 show_all(accounts, f)

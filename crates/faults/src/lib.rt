@@ -5,6 +5,7 @@ ghost use Rattle.std.specs.Prelude.{◌≡◌, Some};
 ghost use Rattle.faults.specs.Faults.{number_of, layer_of, place_of};
 ghost use Rattle.faults.specs.Text.{layer_text, fault_text};
 
+use std::error::Error;
 use std::fmt;
 
 /// The layer in which a fault arises.
@@ -69,6 +70,7 @@ pub enum Fault {
     DrainWaits(usize),
 }
 
+// Three facts of one fault, asked for by name: a conversion to a number would not say which.
 impl Fault {
     /// The number by which the fault is known.
     pub fn number(self) -> u32
@@ -165,15 +167,14 @@ impl fmt::Display for Layer {
     ghost output = { λ l. Some (layer_text l) };
 
     fn fmt<W: fmt::Write>(&self, f: &mut fmt::Formatter<W>) -> fmt::Result {
-        let text = match *self {
+        f.write_str(match self {
             Layer::Record => "record",
             Layer::Number => "number",
             Layer::Table => "table",
             Layer::Order => "order",
             Layer::Call => "call",
             Layer::Machine => "machine",
-        };
-        write!(f, "{text}")
+        })
     }
 }
 
@@ -182,9 +183,8 @@ impl fmt::Display for Fault {
     ghost output = { λ e. Some (fault_text e) };
 
     fn fmt<W: fmt::Write>(&self, f: &mut fmt::Formatter<W>) -> fmt::Result {
-        let number = self.number();
-        let layer = self.layer();
-        let place = self.place();
-        write!(f, "{number} {layer} {place}")
+        write!(f, "{} {} {}", self.number(), self.layer(), self.place())
     }
 }
+
+impl Error for Fault {}

@@ -1,41 +1,50 @@
 -- Which line is asked about.
-use Rattle.std.proofs.Common.{◌≡◌, ℕ, ◌+◌, ◌-◌, ◌*◌, ◌<◌, ◌≤◌, List, get_or, Some, Option, sym, ap, ◌∙◌, ap₂, arith}
-use Rattle.std.proofs.lemmas.Bool.{lt-ltb, le-ltb}
-use Rattle.faults.specs.declared.Fault.TheVariants.{LineUnknown}
+use Rattle.std.proofs.Common.{◌≡◌, ℕ, ◌-◌, ◌<◌, Bool, true, false, cond, List, get_or, ltb, Some, None, Option, sym, refl, ap, ◌∙◌, ap₂, arith}
+use Rattle.faults.specs.declared.Fault.{Fault}
+use Rattle.faults.specs.declared.Fault.TheVariants.{ProcessorUnknown, LineUnknown, NothingRead}
 use Rattle.tables.specs.declared.line.Line.{Line}
-use Rattle.tables.specs.Size.{unit, number, table, row}
-use Rattle.tables.specs.Lines.{nth}
+use Rattle.tables.specs.Size.{unit}
+use Rattle.tables.specs.Lines.{nth, line_reads}
 use Rattle.tables.specs.Rows.{Rows, empty}
-use Rattle.tables.specs.View.{line_at, Good}
+use Rattle.tables.specs.Places.{no_line, line_refused}
+use Rattle.tables.specs.View.{line_at, of_line, reads_at, Good}
 use Rattle.tables.proofs.Numbering.{table_number, row_number}
-use Rattle.tables.proofs.Pushes.{nth_past}
+use Rattle.tables.proofs.Pushes.{nth_inside}
+use Rattle.model.proofs.Extremes.{some≢none}
 use Rattle.judging.specs.Asks.{asked_line, reading_refused, ask_refused}
 
--- the code's place is the line's number
-pub place_is : (p l : ℕ) → (p - 1) * 32 + (l - 1) ≡ asked_line p l
-unfolding number
-place_is p l = omega arith
+-- the tests that come before the line's, and what the line decides
+abbrev tests : Bool → Bool → Bool → ℕ → Option Fault → Option Fault
+tests a b c l r = cond a (Some ProcessorUnknown) (cond b (Some ProcessorUnknown) (cond c (Some (LineUnknown l)) r))
 
-module _ (ts : List Rows) (p l : ℕ) (low : 1 ≤ p) (high : p ≤ 4) where
-  -- where the processor is there and the line is not 0, the line decides
-  pub by_line : 1 ≤ l → ask_refused ts p l ≡ reading_refused l (nth (get_or ts (p - 1) empty).lines (l - 1))
-  by_line h = rw (le-ltb p 1 low, le-ltb 4 p high, le-ltb l 1 h)
+absent : (a b c : Bool) (l : ℕ) (x : Option Line) (f : Fault) → tests a b c l (no_line l x) ≡ Some f → tests a b c l (reading_refused l x) ≡ Some f
+absent true b c l x f e = e
+absent false true c l x f e = e
+absent false false true l x f e = e
+absent false false false l None f e = e
+absent false false false l (Some k) f e = absurd (some≢none f (sym e))
 
-  pub line_none : l < 1 → ask_refused ts p l ≡ Some (LineUnknown l)
-  line_none h = rw (le-ltb p 1 low, le-ltb 4 p high, lt-ltb l 1 h)
+-- a line that is there decides by whether it reads
+record There (a b c : Bool) (l : ℕ) (x : Option Line) : Type 0 where
+  line : Line
+  is : x ≡ Some line
+  decides : tests a b c l (reading_refused l x) ≡ cond (of_line false line_reads x) None (Some (NothingRead l))
 
-  pub line_past : Good unit ts → 32 < l → ask_refused ts p l ≡ Some (LineUnknown l)
-  line_past g h =
-      let n = nth_past (get_or ts (p - 1) empty).lines (l - 1) (let r = g.rows (p - 1) in omega arith) in
-      by_line (omega arith) ∙ ap (reading_refused l) n
+there : (a b c : Bool) (l : ℕ) (x : Option Line) → tests a b c l (no_line l x) ≡ None → There a b c l x
+there true b c l x e = absurd (some≢none ProcessorUnknown e)
+there false true c l x e = absurd (some≢none ProcessorUnknown e)
+there false false true l x e = absurd (some≢none (LineUnknown l) e)
+there false false false l None e = absurd (some≢none (LineUnknown l) e)
+there false false false l (Some k) e = record { line = k; is = refl; decides = refl }
 
-  pub asked_at : l ≤ 32 → 1 ≤ l → line_at unit ts ((p - 1) * 32 + (l - 1)) ≡ nth (get_or ts (p - 1) empty).lines (l - 1)
-  asked_at h k =
-      let i = place_is p l in
-      let a = ap (table unit) i ∙ table_number unit (p - 1) (l - 1) (omega arith) in
-      let b = ap (row unit) i ∙ row_number unit (p - 1) (l - 1) (omega arith) in
-      ap₂ (λ (t r : ℕ). nth (get_or ts t empty).lines r) a b
+module _ (ts : List Rows) (p l : ℕ) where
+  pub asked_absent : (f : Fault) → line_refused ts p l ≡ Some f → ask_refused ts p l ≡ Some f
+  asked_absent f e = absent (ltb p 1) (ltb 4 p) (ltb l 1) l (nth (get_or ts (p - 1) empty).lines (l - 1)) f e
 
-  -- and the line at its place decides
-  pub by_place : l ≤ 32 → 1 ≤ l → (x : Option Line) → x ≡ line_at unit ts ((p - 1) * 32 + (l - 1)) → ask_refused ts p l ≡ reading_refused l x
-  by_place h k x e = by_line k ∙ sym (ap (reading_refused l) (e ∙ asked_at h k))
+  pub asked_there : Good unit ts → line_refused ts p l ≡ None → ask_refused ts p l ≡ cond (reads_at unit ts (asked_line p l)) None (Some (NothingRead l))
+  asked_there g e =
+      let ls = (get_or ts (p - 1) empty).lines in
+      let t = there (ltb p 1) (ltb 4 p) (ltb l 1) l (nth ls (l - 1)) e in
+      let h : l - 1 < 32 = let i = nth_inside ls (l - 1) t.line t.is in let r = g.rows (p - 1) in omega arith in
+      let i : line_at unit ts (asked_line p l) ≡ nth ls (l - 1) = ap₂ (λ (q k : ℕ). nth (get_or ts q empty).lines k) (table_number unit (p - 1) (l - 1) h) (row_number unit (p - 1) (l - 1) h) in
+      t.decides ∙ sym (ap (λ (x : Option Line). cond (of_line false line_reads x) None (Some (NothingRead l))) i)

@@ -1,6 +1,7 @@
 -- The latest of the writes to consider, found by a scan back from the read and then down its own table.
-use Rattle.std.proofs.Common.{◌≡◌, ℕ, suc, ◌+◌, ◌*◌, ◌/◌, ◌%◌, ◌<◌, ◌≤◌, true, false, eqb, ltb, ◌⊎◌, List, length, get_or, Some, None, Option, sym, refl, ap, subst, inl, inr, arith}
+use Rattle.std.proofs.Common.{◌≡◌, ℕ, suc, ◌+◌, ◌*◌, ◌/◌, ◌%◌, ◌<◌, ◌≤◌, true, false, eqb, ltb, ◌⊎◌, List, length, get_or, take, Some, None, Option, MatchOption, option_map, sym, refl, ap, subst, inl, inr, arith}
 use Rattle.std.proofs.lemmas.Bool.{both_ways, true≢false, cases_Bool, cases_lt, and_parts, and_from, or_cases, or_left, or_right, ltb-true, ltb-false, eqb-true, eq-eqb, lt-ltb}
+use Rattle.std.proofs.lemmas.List.{length-take-le, get_or-take}
 use Rattle.tables.specs.Size.{unit, table, rd, wr}
 use Rattle.tables.specs.Rows.{Rows}
 use Rattle.tables.specs.View.{reads_at, writes_at, cell_at, is_read}
@@ -128,10 +129,10 @@ module _ (ts : List Rows) (o : List ℕ) (n i : ℕ)
     ]
   ]
 
-  pub scan_none : i ≡ 0 → (j : ℕ) → concerns_to unit ts o n (n / 32 * 32) j ≡ false
+  scan_none : i ≡ 0 → (j : ℕ) → concerns_to unit ts o n (n / 32 * 32) j ≡ false
   scan_none q j = not_near ts o n (n / 32 * 32) j (λ h. let z = before_seen j h in omega arith)
 
-  pub scan_found :
+  scan_found :
       (h : ℕ) → i ≡ suc h → h < place o (rd n) → times o (get_or o h 0) ≤ 1 → get_or o h 0 % 2 ≡ 1
       → writes_cell unit ts n (get_or o h 0 / 2) ≡ true → get_or o h 0 / 2 < 128 → Best unit ts o n (n / 32 * 32) (Some (get_or o h 0 / 2))
   scan_found h q l t odd w low =
@@ -140,6 +141,13 @@ module _ (ts : List Rows) (o : List ℕ) (n i : ℕ)
       let e : 2 * (get_or o h 0 / 2) + 1 ≡ get_or o h 0 = omega arith in
       let r = ap (place o) e in
       (low, from_near ts o n (n / 32 * 32) (get_or o h 0 / 2) w (inl (omega arith)), λ j v. let z = before_seen j v in omega arith)
+
+-- an event is a write to the cell of line n, or none
+abbrev pub IsWrite : List Rows → ℕ → ℕ → Type 0
+IsWrite ts n e = (e % 2 ≡ 1) × (writes_cell unit ts n (e / 2) ≡ true)
+
+abbrev pub IsNoWrite : List Rows → ℕ → ℕ → Type 0
+IsNoWrite ts n e = e % 2 ≡ 1 → writes_cell unit ts n (e / 2) ≡ true → ⊥
 
 module _ (ts : List Rows) (o : List ℕ) (S : Settled unit ts o) where
   -- a write event that stands, stands once
@@ -154,6 +162,27 @@ module _ (ts : List Rows) (o : List ℕ) (S : Settled unit ts o) where
       let t = S.writes_once (e / 2) w in
       let r = ap (times o) q in
       omega arith
+
+  -- the latest of the writes before the read's place, from the last position in front of it where one stands
+  pub best_before :
+      (n : ℕ) → ((i : ℕ) → i < length o → get_or o i 0 < 256) → (p : ℕ) → p ≡ place o (rd n) → (r : Option ℕ)
+      → MatchOption r ((k : ℕ) → k < length (take p o) → IsNoWrite ts n (get_or (take p o) k 0))
+      (λ i. (i < length (take p o)) × IsWrite ts n (get_or (take p o) i 0)
+      × ((k : ℕ) → i < k → k < length (take p o) → IsNoWrite ts n (get_or (take p o) k 0)))
+      → Best unit ts o n (n / 32 * 32) (option_map (λ i. get_or o i 0 / 2) r)
+  best_before n low p q None h =
+      let b = place_le o (rd n) in
+      let len = length-take-le p o (omega arith) in
+      scan_none ts o n 0 (λ j _ l. subst (IsNoWrite ts n) (get_or-take p o j 0 (omega arith)) (h j (omega arith))) refl
+  best_before n low p q (Some i) h =
+      let b = place_le o (rd n) in
+      let len = length-take-le p o (omega arith) in
+      let l : i < p = let x = h.0 in omega arith in
+      let w = subst (IsWrite ts n) (get_or-take p o i 0 l) h.1 in
+      let y = low i (omega arith) in
+      scan_found ts o n (suc i)
+      (λ j m u. subst (IsNoWrite ts n) (get_or-take p o j 0 (omega arith)) (h.2 j (omega arith) (omega arith))) i refl (omega arith)
+      (odd_once i (omega arith) w.0) w.0 w.1 (omega arith)
 
   module _ (w : Waits) (n : ℕ) (reads : reads_at unit ts n ≡ true) where
     to_concerns : (m : ℕ) → concerns_to unit ts o n n m ≡ true → Concerns (program unit w ts) o n m

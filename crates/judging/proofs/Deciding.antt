@@ -1,5 +1,5 @@
 -- From what the searches find to the verdict.
-use Rattle.std.proofs.Common.{◌≡◌, ℕ, ◌*◌, ◌<◌, ◌≤◌, true, List, length, Some, None, Ok, Err, Option, Result, sym, refl, ap, subst, inl, inr, arith}
+use Rattle.std.proofs.Common.{◌≡◌, ℕ, ◌*◌, ◌<◌, ◌≤◌, true, List, length, Some, None, Ok, Err, IfOk, IsOk, IsOkAnd, Option, Result, MatchResult, sym, refl, ap, subst, inl, inr, arith}
 use Rattle.std.proofs.lemmas.Bool.{cases_lt}
 use Rattle.faults.specs.declared.Fault.{Fault}
 use Rattle.tables.specs.declared.event.Event.{Event}
@@ -13,8 +13,7 @@ use Rattle.model.specs.Orders.{Once, AtMostOnce, Stands}
 use Rattle.model.specs.Axioms.{OrderKept, OrderBroken, read_not_once, write_repeated, TerminationKept, TerminationBroken, LoadOpKept, LoadOpBroken, WaitKept, WaitBroken, AtomicityKept, AtomicityBroken, Meets}
 use Rattle.model.specs.declared.verdict.Axiom.{Axiom}
 use Rattle.model.specs.declared.verdict.Axiom.TheVariants.{Order, Termination, LoadOp, Wait, Atomicity, Value}
-use Rattle.model.specs.declared.verdict.Verdict.{Verdict}
-use Rattle.model.specs.declared.verdict.Verdict.TheVariants.{Passes, Broken}
+use Rattle.model.specs.declared.verdict.Breach.{Breach}
 use Rattle.model.specs.Verdicts.{number_of, code_if, write_of, OfUnitIf, Kept, Names, Judged}
 use Rattle.judging.specs.Case.{Case, case, MeetsSix, Heard, VerdictOn, Answered, PassesAll, Refused, short, lacking}
 use Rattle.judging.specs.Namings.{NamedIf, Tells}
@@ -33,18 +32,17 @@ code_if_lem P (Some c) None n = absurd n
 code_if_lem P (Some c) (Some e) n = (ap (λ (x : ℕ). Some x) n.1, n.0)
 
 module _ {M : Type 0} (P : Program) (stored : (ℕ → M) → ℕ → M) (start : ℕ → M) (o : List ℕ) (words : ℕ → M) where
-  -- a verdict made from codes says what holds of them
+  -- a breach made from codes says what holds of them
   told :
-      (a : Axiom) (c : ℕ) (d : Option ℕ) (v : Verdict) → Tells P.size a c d v
-      → ((b : Axiom) → number_of b < number_of a → Kept P stored start o words b) → Names P stored start o words a c d
-      → Judged P stored start o words v
-  told a c d Passes t k n = absurd t
-  told a c d (Broken b e f) t k n =
+      (a : Axiom) (c : ℕ) (d : Option ℕ) (b : Breach) → Tells P.size a c d b
+      → ((x : Axiom) → number_of x < number_of a → Kept P stored start o words x) → Names P stored start o words a c d
+      → Judged P stored start o words {T = Unit {0}} (Err b)
+  told a c d b t k n =
       let N = Names P stored start o words in
-      let q = code_if_lem P d f t.2 in (
+      let q = code_if_lem P d b.second t.2 in (
         subst (λ (x : Axiom). (y : Axiom) → number_of y < number_of x → Kept P stored start o words y) (sym t.0) k,
-        subst (λ (x : Axiom). N x (code_of P.size e) (code_if P f)) (sym t.0)
-            (subst (λ (x : ℕ). N a x (code_if P f)) (sym t.1.1) (subst (λ (x : Option ℕ). N a c x) (sym q.0) n)),
+        subst (λ (x : Axiom). N x (code_of P.size b.first) (code_if P b.second)) (sym t.0)
+            (subst (λ (x : ℕ). N a x (code_if P b.second)) (sym t.1.1) (subst (λ (x : Option ℕ). N a c x) (sym q.0) n)),
         t.1.0,
         q.1,
       )
@@ -73,26 +71,26 @@ module _ {M : Type 0} (P : Program) (stored : (ℕ → M) → ℕ → M) (start 
   breaks_kept Atomicity e f n k = k.atomicity e n.0 n.2.is
   breaks_kept Value e f n k = n.4.is.wrong (k.value n.0 n.1 n.4.is.reads n.4.is.should)
 
-  pub meets_passes : (v : Verdict) → Judged P stored start o words v → Meets P stored start o words → v ≡ Passes
-  meets_passes Passes j k = refl
-  meets_passes (Broken a e f) j k = absurd (breaks_kept a _ _ j.1 k)
+  pub meets_passes : {T : Type 0} (v : Result T Breach) → Judged P stored start o words v → Meets P stored start o words → IsOk v
+  meets_passes (Ok t) j k = refl
+  meets_passes (Err b) j k = absurd (breaks_kept b.axiom _ _ j.1 k)
 
 module _ {W M : Type 0} (w : Waits) (meaning : W → M) (start : ℕ → M) (writtens : ℕ → ℕ → ℕ → M) (ts : List Rows) (o : List ℕ) (xs : List W) where
   abbrev C : Case M
   C = case w meaning start writtens ts o xs
 
   judged_as :
-      (a : Axiom) (c : ℕ) (d : Option ℕ) (v : Verdict) → (1 < number_of a → OrderKept (program unit w ts) o)
+      (a : Axiom) (c : ℕ) (d : Option ℕ) (v : Breach) → (1 < number_of a → OrderKept (program unit w ts) o)
       → (2 < number_of a → TerminationKept (program unit w ts) o) → (3 < number_of a → LoadOpKept (program unit w ts) o)
       → (4 < number_of a → WaitKept (program unit w ts) o) → (5 < number_of a → AtomicityKept (program unit w ts) o) → number_of a ≤ 6
-      → Names (program unit w ts) C.stored start o C.words a c d → Tells unit a c d v → VerdictOn C v
+      → Names (program unit w ts) C.stored start o C.words a c d → Tells unit a c d v → VerdictOn C {T = Unit {0}} (Err v)
   judged_as a c d v k1 k2 k3 k4 k5 m n t =
       told (program unit w ts) C.stored start o C.words a c d v t
       (λ b h. below (program unit w ts) C.stored start o C.words (number_of a) k1 k2 k3 k4 k5 b h m) n
 
   pub broken_order :
       (e : ℕ) → order_bad unit ts o e ≡ true → ClearBelow (order_bad unit ts o) e
-      → (v : Verdict) → Tells unit Order e None v → VerdictOn C v
+      → (v : Breach) → Tells unit Order e None v → VerdictOn C {T = Unit {0}} (Err v)
   broken_order e t c v s =
       judged_as Order e None v (λ h. absurd (omega arith)) (λ h. absurd (omega arith)) (λ h. absurd (omega arith)) (λ h. absurd (omega arith))
       (λ h. absurd (omega arith)) (omega arith)
@@ -101,7 +99,7 @@ module _ {W M : Type 0} (w : Waits) (meaning : W → M) (start : ℕ → M) (wri
   module _ (c1 : Clear (order_bad unit ts o)) where
     pub broken_termination :
         (e : ℕ) → missing unit ts o e ≡ true → ClearBelow (missing unit ts o) e
-        → (v : Verdict) → Tells unit Termination e None v → VerdictOn C v
+        → (v : Breach) → Tells unit Termination e None v → VerdictOn C {T = Unit {0}} (Err v)
     broken_termination e t c v s =
         judged_as Termination e None v (λ h. order_kept unit w ts o c1) (λ h. absurd (omega arith)) (λ h. absurd (omega arith))
         (λ h. absurd (omega arith)) (λ h. absurd (omega arith)) (omega arith)
@@ -113,7 +111,7 @@ module _ {W M : Type 0} (w : Waits) (meaning : W → M) (start : ℕ → M) (wri
 
       pub broken_load :
           (e f : ℕ) → load_bad unit ts o e f ≡ true → ClearBelow (load_bad unit ts o e) f → ((i : ℕ) → i < e → Clear (load_bad unit ts o i))
-          → (v : Verdict) → Tells unit LoadOp e (Some f) v → VerdictOn C v
+          → (v : Breach) → Tells unit LoadOp e (Some f) v → VerdictOn C {T = Unit {0}} (Err v)
       broken_load e f t c a v s =
           judged_as LoadOp e (Some f) v (λ h. order_kept unit w ts o c1) (λ h. termination_kept unit w ts o c2) (λ h. absurd (omega arith))
           (λ h. absurd (omega arith)) (λ h. absurd (omega arith)) (omega arith)
@@ -122,7 +120,7 @@ module _ {W M : Type 0} (w : Waits) (meaning : W → M) (start : ℕ → M) (wri
       module _ (c3 : (i : ℕ) → Clear (load_bad unit ts o i)) where
         pub broken_wait :
             (e f : ℕ) → wait_bad unit ts o w e f ≡ true → ClearBelow (wait_bad unit ts o w e) f → ((i : ℕ) → i < e → Clear (wait_bad unit ts o w i))
-            → (v : Verdict) → Tells unit Wait e (Some f) v → VerdictOn C v
+            → (v : Breach) → Tells unit Wait e (Some f) v → VerdictOn C {T = Unit {0}} (Err v)
         broken_wait e f t c a v s =
             judged_as Wait e (Some f) v (λ h. order_kept unit w ts o c1) (λ h. termination_kept unit w ts o c2)
             (λ h. load_kept unit w ts o settled c3) (λ h. absurd (omega arith)) (λ h. absurd (omega arith)) (omega arith)
@@ -131,7 +129,7 @@ module _ {W M : Type 0} (w : Waits) (meaning : W → M) (start : ℕ → M) (wri
         module _ (c4 : (i : ℕ) → Clear (wait_bad unit ts o w i)) where
           pub broken_swap :
               (e f : ℕ) → swap_bad unit ts o e f ≡ true → ClearBelow (swap_bad unit ts o e) f → ((i : ℕ) → i < e → Clear (swap_bad unit ts o i))
-              → (v : Verdict) → Tells unit Atomicity e (Some f) v → VerdictOn C v
+              → (v : Breach) → Tells unit Atomicity e (Some f) v → VerdictOn C {T = Unit {0}} (Err v)
           broken_swap e f t c a v s =
               judged_as Atomicity e (Some f) v (λ h. order_kept unit w ts o c1) (λ h. termination_kept unit w ts o c2)
               (λ h. load_kept unit w ts o settled c3) (λ h. wait_kept unit w ts o settled c4) (λ h. absurd (omega arith)) (omega arith)
@@ -141,7 +139,7 @@ module _ {W M : Type 0} (w : Waits) (meaning : W → M) (start : ℕ → M) (wri
             pub broken_value :
                 (n : ℕ) (s : Option ℕ) (d : Option ℕ) → d ≡ write_of s → Wrong C n s
                 → ((j : ℕ) → j < n → Right C j)
-                → (v : Verdict) → Tells unit Value (2 * n) d v → VerdictOn C v
+                → (v : Breach) → Tells unit Value (2 * n) d v → VerdictOn C {T = Unit {0}} (Err v)
             broken_value n s d q b c v t =
                 judged_as Value (2 * n) d v (λ h. order_kept unit w ts o c1) (λ h. termination_kept unit w ts o c2)
                 (λ h. load_kept unit w ts o settled c3) (λ h. wait_kept unit w ts o settled c4) (λ h. swap_kept unit w ts o settled c5) (omega arith) (
@@ -170,6 +168,20 @@ module _ {M : Type 0} (C : Case M) (size : ℕ) where
   not_refused e (short l q) h = let r = h.room in omega arith
   not_refused e (lacking i r k q) h = k.lacking (h.listed i k.code k.at)
 
-  pub passes_all : (r : Result Verdict Fault) → Answered C size r → PassesAll C size r
-  passes_all (Ok v) a h k = ap (λ (x : Verdict). Ok x) (meets_passes C.program C.stored C.start C.order C.words v a.1 k)
+  pub passes_all : {T : Type 0} (r : Result (Result T Breach) Fault) → Answered C size r → PassesAll C size r
+  passes_all (Ok v) a h k = meets_passes C.program C.stored C.start C.order C.words v a.1 k
   passes_all (Err e) a h k = absurd (not_refused e a h)
+
+-- a verdict that was made of another says the same of a case
+pub same_verdict :
+    {M T U : Type 0} (C : Case M) (Q : T → U → Type 0) (v : Result T Breach) (u : Result U Breach)
+    → MatchResult v (λ x. IsOkAnd u (Q x)) (λ e. u ≡ Err e) → VerdictOn C v → VerdictOn C u
+same_verdict C Q (Ok x) (Ok y) m h = h
+same_verdict C Q (Ok x) (Err e) m h = absurd m
+same_verdict {U} C Q (Err e) u m h = subst (λ (x : Result U Breach). VerdictOn C x) (sym m) h
+
+-- what holds of what was asked, where it follows from the axioms
+pub where_passed :
+    {M T : Type 0} (C : Case M) (v : Result T Breach) (Q R : T → Type 0) → VerdictOn C v → IfOk v Q → (MeetsSix C → (x : T) → Q x → R x) → IfOk v R
+where_passed C (Ok x) Q R m q h = h m x q
+where_passed C (Err e) Q R m q h = tt

@@ -1,7 +1,7 @@
 pub mod Locating
+pub mod Backwards
 pub mod Beyond
 pub mod Scans
-pub mod Wording
 pub mod Listing
 pub mod Choosing
 pub mod Testing

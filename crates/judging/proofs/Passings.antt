@@ -15,14 +15,11 @@ use Rattle.model.proofs.Promises.{trace_finds_the_word_lem}
 use Rattle.judging.specs.declared.passing.Passing.{Passing}
 use Rattle.judging.specs.declared.passing.Trace.{Trace}
 use Rattle.judging.specs.Searches.{AllBelow}
-use Rattle.judging.specs.Sources.{Settled, ReadsOnce, WritesOnce, WritesStand}
+use Rattle.judging.specs.Sources.{Settled}
 use Rattle.judging.specs.Outcomes.{rows_of, order_of, TracedTo}
 use Rattle.judging.specs.Traces.{ReadsLead, reach}
 use Rattle.judging.proofs.Listing.{get_at, event_is}
 use Rattle.judging.proofs.Tracing.{reach_before}
-
-pub settled : (p : Passing) → Settled unit (rows_of p) (order_of p)
-settled p = record { listed = p.listed; reads_once = p.reads; writes_once = p.writes; writes_stand = p.stands }
 
 -- what a write copied was read before the read that should have it
 pub goes_up :
@@ -31,12 +28,12 @@ pub goes_up :
     → reach (order_of p) (copy_at unit (rows_of p) m) ≤ place (order_of p) (rd n)
 goes_up p n m r h =
     let w : Waits = λ _ _. true in
-    reach_before unit (rows_of p) (order_of p) p.reads (good p.tables.now) p.leads w n m r (h w)
+    reach_before unit (rows_of p) (order_of p) p.complete.settled.reads_once (good p.complete.standing.tables.now) p.leads w n m r (h w)
 
 -- so the reads of a trace are fewer than the order is long
 pub countable : (p : Passing) (n : ℕ) → reads_at unit (rows_of p) n ≡ true → place (order_of p) (rd n) + 1 < 2 ^ 64
 countable p n r =
-    let t = p.reads n r in
+    let t = p.complete.settled.reads_once n r in
     let i = stands_from (order_of p) (rd n) (omega arith) in
     let l = p.short in
     omega arith
@@ -77,22 +74,6 @@ module _ (ts : List Rows) (w : Waits) (o : List ℕ) where
           finds = T.finds t.end t.reads h;
         }
 
--- what the ghost fields of a passing order hold together
-pub record Invariant (ts : List Rows) (o : List ℕ) : Type 0 where
-  pub short : length o < 2 ^ 64
-  pub listed : AllBelow (is_event unit ts) o (length o)
-  pub reads : ReadsOnce unit ts o
-  pub writes : WritesOnce unit ts o
-  pub stands : WritesStand unit ts o
-  pub leads : ReadsLead unit ts o
-
-pub invariant : (ts : List Rows) (o o' : List ℕ) → o' ≡ o → length o < 2 ^ 64 → Settled unit ts o → ReadsLead unit ts o → Invariant ts o'
-invariant ts o o' e l s d =
-    subst (λ (x : List ℕ). Invariant ts x) (sym e) (record {
-      short = l;
-      listed = s.listed;
-      reads = s.reads_once;
-      writes = s.writes_once;
-      stands = s.writes_stand;
-      leads = d;
-    })
+-- what holds of tables and an order holds of equal ones
+pub moved : (P : List Rows → List ℕ → Type 0) {ts ts' : List Rows} {o o' : List ℕ} → ts' ≡ ts → o' ≡ o → P ts o → P ts' o'
+moved P {ts = ts} {o' = o'} d e h = subst (λ (y : List Rows). P y o') (sym d) (subst (P ts) (sym e) h)

@@ -1,5 +1,5 @@
 -- What is put to the judge, and what it answers.
-use Rattle.std.specs.Prelude.{◌≡◌, ℕ, ◌<◌, ◌≤◌, List, Ok, Result, MatchResult}
+use Rattle.std.specs.Prelude.{◌≡◌, ℕ, ◌<◌, ◌≤◌, List, Result, MatchResult, IsOk, IsOkAnd}
 use Rattle.faults.specs.declared.Fault.{Fault}
 use Rattle.faults.specs.declared.Fault.TheVariants.{SheetShort, EventLacking}
 use Rattle.tables.specs.Size.{unit, places}
@@ -9,8 +9,7 @@ use Rattle.model.specs.Program.{Program, program, stored_at}
 use Rattle.model.specs.Orders.{At, Event, Listed}
 use Rattle.model.specs.Axioms.{Meets}
 use Rattle.model.specs.Verdicts.{Judged}
-use Rattle.model.specs.declared.verdict.Verdict.{Verdict}
-use Rattle.model.specs.declared.verdict.Verdict.TheVariants.{Passes}
+use Rattle.model.specs.declared.verdict.Breach.{Breach}
 use Rattle.judging.specs.Words.{kind_of, words_on}
 
 -- lines under a rule, an order of their events, and the words that they read, by meaning
@@ -49,7 +48,7 @@ module _ {M : Type 0} (c : Case M) where
   MeetsSix = Meets c.program c.stored c.start c.order c.words
 
   -- a verdict says what holds of the case
-  abbrev pub VerdictOn : Verdict → Type 0
+  abbrev pub VerdictOn : {T : Type 0} → Result T Breach → Type 0
   VerdictOn v = Judged c.program c.stored c.start c.order c.words v
 
   -- nothing of the case is refused
@@ -58,9 +57,9 @@ module _ {M : Type 0} (c : Case M) where
     pub listed : Listed c.program c.order
 
   -- what the judge answers to the case, with a sheet of that many places
-  abbrev pub Answered : ℕ → Result Verdict Fault → Type 0
+  abbrev pub Answered : {T : Type 0} → ℕ → Result (Result T Breach) Fault → Type 0
   Answered size r = MatchResult r (λ v. Heard size × VerdictOn v) (λ e. Refused c.program c.order size e)
 
   -- a case that is not refused, and meets the axioms, passes
-  abbrev pub PassesAll : ℕ → Result Verdict Fault → Type 0
-  PassesAll size r = Heard size → MeetsSix → r ≡ Ok Passes
+  abbrev pub PassesAll : {T : Type 0} → ℕ → Result (Result T Breach) Fault → Type 0
+  PassesAll size r = Heard size → MeetsSix → IsOkAnd r (λ v. IsOk v)

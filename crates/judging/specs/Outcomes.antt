@@ -1,5 +1,5 @@
 -- What is told of an order that is judged first.
-use Rattle.std.specs.Prelude.{◌≡◌, ℕ, ◌≤◌, List, Ok, Err, Option, Result}
+use Rattle.std.specs.Prelude.{◌≡◌, ℕ, ◌≤◌, List, Option, Result, IfOk}
 use Rattle.faults.specs.declared.Fault.{Fault}
 use Rattle.tables.specs.declared.event.Event.{Event}
 use Rattle.tables.specs.Size.{unit}
@@ -7,44 +7,26 @@ use Rattle.tables.specs.Rows.{Rows}
 use Rattle.tables.specs.Contents.{contents}
 use Rattle.tables.specs.View.{copy_at}
 use Rattle.rules.specs.Waits.{Waits}
+use Rattle.rules.specs.declared.words.Origin.{Origin}
 use Rattle.model.specs.Program.{Program, program, written_at}
 use Rattle.model.specs.Axioms.{Should}
 use Rattle.model.specs.Verdicts.{code_if, write_of, OfUnitIf}
 use Rattle.model.specs.Trace.{ReadTrace, found, reads_in}
-use Rattle.model.specs.declared.verdict.End.{End}
-use Rattle.model.specs.declared.verdict.Verdict.{Verdict}
-use Rattle.model.specs.declared.verdict.Verdict.TheVariants.{Passes, Broken}
+use Rattle.model.specs.declared.verdict.Breach.{Breach}
 use Rattle.judging.specs.declared.passing.Passing.{Passing}
-use Rattle.judging.specs.declared.passing.Outcome.{Outcome}
-use Rattle.judging.specs.declared.passing.Outcome.TheVariants.{Broken as Fails, Passed}
 use Rattle.judging.specs.declared.passing.Trace.{Trace}
 use Rattle.judging.specs.Words.{kind_of, words_on}
 
-module _ {T : Type 0} where
-  abbrev pub verdict_of : Outcome T → Verdict
-  verdict_of (Fails a e f) = Broken a e f
-  verdict_of (Passed t) = Passes
-
-  -- the verdict by which an outcome goes, or the refusal
-  abbrev pub verdicts : Result (Outcome T) Fault → Result Verdict Fault
-  verdicts (Ok x) = Ok (verdict_of x)
-  verdicts (Err e) = Err e
-
-  abbrev pub WherePassed : Outcome T → (T → Type 0) → Type 0
-  WherePassed (Fails a e f) Q = Unit {0}
-  WherePassed (Passed t) Q = Q t
-
-  -- what holds of a result where the order passed
-  abbrev pub IfPassed : Result (Outcome T) Fault → (T → Type 0) → Type 0
-  IfPassed (Ok x) Q = WherePassed x Q
-  IfPassed (Err e) Q = Unit {0}
+-- what holds of a result where the order passed
+abbrev pub IfPassed : {T : Type 0} → Result (Result T Breach) Fault → (T → Type 0) → Type 0
+IfPassed r Q = IfOk r (λ v. IfOk v Q)
 
 -- the contents of the tables, and the order
 abbrev pub rows_of : Passing → List Rows
-rows_of p = contents p.tables.now
+rows_of p = contents p.complete.standing.tables.now
 
 abbrev pub order_of : Passing → List ℕ
-order_of p = p.standing.order.now
+order_of p = p.complete.standing.order.now
 
 -- the read of line n should have this write, or the start word
 pub record ReadsFrom (P : Program) (o : List ℕ) (n : ℕ) (s : Option Event) : Type 0 where
@@ -57,7 +39,7 @@ pub record ReadsFrom (P : Program) (o : List ℕ) (n : ℕ) (s : Option Event) :
 -- word at the end is the one read
 pub record TracedTo {M : Type 0} (P : Program) (copy : ℕ → Option ℕ) (written start : ℕ → M) (o : List ℕ) (words : ℕ → M) (n : ℕ) (t : Trace) : Type 0 where
   pub is : ReadTrace P copy o n t.end t.reads
-  pub only : (e : End) (r : ℕ) → ReadTrace P copy o n e r → (e ≡ t.end) × (r ≡ t.reads)
+  pub only : (e : Origin) (r : ℕ) → ReadTrace P copy o n e r → (e ≡ t.end) × (r ≡ t.reads)
   pub few : t.reads ≤ reads_in P
   pub finds : found P written start t.end ≡ words n
 

@@ -1,5 +1,5 @@
 -- What a search for the first, or the lowest pair, finds.
-use Rattle.std.specs.Prelude.{◌≡◌, ℕ, ◌<◌, Bool, true, false, List, length, Option, MatchOption, slice_index}
+use Rattle.std.specs.Prelude.{◌≡◌, ℕ, ◌<◌, Bool, true, false, List, length, Some, None, Option, MatchOption, slice_index}
 
 -- no number passes the test; none below n does
 abbrev pub Clear : (ℕ → Bool) → Type 0
@@ -16,6 +16,11 @@ Lowest b r = MatchOption r (Clear b) (λ e. (b e ≡ true) × ClearBelow b e)
 abbrev pub LowestPair : (ℕ → ℕ → Bool) → Option (ℕ × ℕ) → Type 0
 LowestPair b r =
     MatchOption r ((i : ℕ) → Clear (b i)) (λ p. (b p.0 p.1 ≡ true) × ClearBelow (b p.0) p.1 × ((i : ℕ) → i < p.0 → Clear (b i)))
+
+-- of the numbers below n, the first whose row gives something, with what it gives
+pub record FirstRow (Row : ℕ → Option ℕ → Type 0) (n : ℕ) (r : Option (ℕ × ℕ)) : Type 0 where
+  pub found :
+      MatchOption r ((i : ℕ) → i < n → Row i None) (λ p. (p.0 < n) × Row p.0 (Some p.1) × ((i : ℕ) → i < p.0 → Row i None))
 
 -- the first n numbers of a list pass
 abbrev pub AllBelow : (ℕ → Bool) → List ℕ → ℕ → Type 0

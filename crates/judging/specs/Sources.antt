@@ -1,5 +1,5 @@
 -- Orders in which every event stands, and the latest write so far in the search for the write that a read should have.
-use Rattle.std.specs.Prelude.{◌≡◌, ℕ, ◌<◌, ◌≤◌, Bool, true, false, List, length, Some, None, Option, nat_lt}
+use Rattle.std.specs.Prelude.{◌≡◌, ℕ, ◌<◌, ◌≤◌, Bool, true, false, List, length, Some, None, Option, IfSome, nat_lt}
 use Rattle.tables.specs.Size.{Size, rd, wr}
 use Rattle.tables.specs.Rows.{Rows}
 use Rattle.tables.specs.View.{reads_at, writes_at, is_event}
@@ -32,8 +32,7 @@ module _ (z : Size) (ts : List Rows) (o : List ℕ) where
 
 -- a line, if there is one, has a place on a sheet
 abbrev pub Within : Option ℕ → Type 0
-Within None = Unit {0}
-Within (Some m) = m < 128
+Within s = IfSome s (λ m. m < 128)
 
 -- whether m's write stands later than that of the best so far
 abbrev pub Later : List ℕ → Option ℕ → ℕ → Bool → Type 0

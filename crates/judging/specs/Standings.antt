@@ -1,15 +1,18 @@
 -- What the table of an order's events holds.
-use Rattle.std.specs.Prelude.{◌≡◌, ℕ, ◌<◌, List, length, slice_index}
+use Rattle.std.specs.Prelude.{◌≡◌, ℕ, ◌<◌, List, length, slice_index, slice_index_or}
 use Rattle.model.proofs.Positions.{place, times}
+use Rattle.judging.specs.declared.standing.Stand.{Stand}
 
 -- every code of the order is below the number of codes
 abbrev pub Codes : List ℕ → Type 0
 Codes o = (i : ℕ) → i < length o → slice_index o i < 256
 
--- where each event stands first, and the order's length where it does not
-abbrev pub PlacesOf : List ℕ → List ℕ → Type 0
-PlacesOf o ps = (e : ℕ) → e < 256 → slice_index ps e ≡ place o e
+-- what reading past the end of a table of stands would give
+abbrev pub nowhere : Stand
+nowhere = record { place = 0; times = 0 }
 
--- how often each event stands
-abbrev pub CountsOf : List ℕ → List ℕ → Type 0
-CountsOf o cs = (e : ℕ) → e < 256 → slice_index cs e ≡ times o e
+-- where each event stands first, or the order's length where it does not, and how often it stands
+abbrev pub StandsOf : List ℕ → List Stand → Type 0
+StandsOf o ss =
+    (e : ℕ) → e < 256
+    → ((slice_index_or ss e nowhere).place ≡ place o e) × ((slice_index_or ss e nowhere).times ≡ times o e)

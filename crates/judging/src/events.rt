@@ -14,51 +14,40 @@ use tables::tables::Tables;
 pub(crate) fn first_lacking(tables: &Tables, order: &[u32]) -> Option<usize>
     ensures { FirstNot (is_event unit (contents tables.now)) order.now result }
 {
-    for i in 0..order.len() {
-        if !tables.is_event(order[i] as usize) {
-            return Some(i);
-        }
+    order
+        .iter()
+        .position(|&code| !tables.is_event(code as usize))
+}
+
+impl<'a> Standing<'a> {
+    // Whether the event breaks Order.
+    fn breaks_order(&self, e: usize) -> bool
+        requires { e < 256 }
+        ensures { result ≡ order_bad unit (contents self.now.tables.now) self.now.order.now e }
+    {
+        let times = self.stands[e].times;
+        (self.tables.is_read(e) && times != 1) || (self.tables.is_write(e) && times > 1)
     }
-    None
-}
 
-// Whether the event breaks Order.
-fn breaks_order(tables: &Tables, standing: &Standing, e: usize) -> bool
-    requires { e < 256 }
-    ensures { result ≡ order_bad unit (contents tables.now) standing.now.order.now e }
-{
-    let times = standing.counts[e];
-    (tables.is_read(e) && times != 1) || (tables.is_write(e) && times > 1)
-}
-
-// The lowest event that breaks Order.
-pub(crate) fn first_disorder(tables: &Tables, standing: &Standing) -> Option<usize>
-    ensures { Lowest (order_bad unit (contents tables.now) standing.now.order.now) result }
-{
-    for e in 0..EVENTS {
-        if breaks_order(tables, standing, e) {
-            return Some(e);
-        }
+    // The lowest event that breaks Order.
+    pub(crate) fn first_disorder(&self) -> Option<usize>
+        ensures { Lowest (order_bad unit (contents self.now.tables.now) self.now.order.now) result }
+    {
+        (0..EVENTS).find(|&e| self.breaks_order(e))
     }
-    None
-}
 
-// Whether the event is a write that does not stand.
-fn is_missing(tables: &Tables, standing: &Standing, e: usize) -> bool
-    requires { e < 256 }
-    ensures { result ≡ missing unit (contents tables.now) standing.now.order.now e }
-{
-    standing.counts[e] == 0 && tables.is_write(e)
-}
-
-// The lowest write that does not stand.
-pub(crate) fn first_missing(tables: &Tables, standing: &Standing) -> Option<usize>
-    ensures { Lowest (missing unit (contents tables.now) standing.now.order.now) result }
-{
-    for e in 0..EVENTS {
-        if is_missing(tables, standing, e) {
-            return Some(e);
-        }
+    // Whether the event is a write that does not stand.
+    fn is_missing(&self, e: usize) -> bool
+        requires { e < 256 }
+        ensures { result ≡ missing unit (contents self.now.tables.now) self.now.order.now e }
+    {
+        self.stands[e].times == 0 && self.tables.is_write(e)
     }
-    None
+
+    // The lowest write that does not stand.
+    pub(crate) fn first_missing(&self) -> Option<usize>
+        ensures { Lowest (missing unit (contents self.now.tables.now) self.now.order.now) result }
+    {
+        (0..EVENTS).find(|&e| self.is_missing(e))
+    }
 }

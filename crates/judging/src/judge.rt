@@ -2,16 +2,12 @@
 ghost use Rattle.std.specs.Prelude.{◌≡◌, ◌<◌, length};
 ghost use Rattle.tables.specs.Contents.{contents};
 ghost use Rattle.tables.specs.Size.{unit};
-ghost use Rattle.tables.specs.View.{is_event};
 ghost use Rattle.judging.specs.Case.{case, VerdictOn, Answered, PassesAll};
-ghost use Rattle.judging.specs.Searches.{AllBelow};
 
-use crate::events::{first_disorder, first_lacking, first_missing};
+use crate::complete::Complete;
+use crate::events::first_lacking;
 use crate::naming::{broken, write_of};
-use crate::pairs::{first_load, first_wait};
 use crate::standing::Standing;
-use crate::swaps::first_swap;
-use crate::values::first_wrong;
 use faults::Fault;
 use model::verdict::{Axiom, Verdict};
 use rules::sheet::Sheet;
@@ -23,36 +19,35 @@ use tables::tables::Tables;
 // The verdict on an order that lists events of the tables. The axioms are tried from the lowest, so that each search may
 // lean on those before it.
 pub(crate) fn weigh<R: WaitRule, K: WordKind>(
-    tables: &Tables,
     rule: &R,
     kind: &K,
-    standing: &Standing,
+    standing: Standing,
     sheet: &mut Sheet<K::Word>,
 ) -> Verdict
-    requires listed { AllBelow (is_event unit (contents tables.now)) standing.now.order.now (length standing.now.order.now) }
-    ensures judged { VerdictOn (case R.WaitRule.waits K.WordKind.meaning K.WordKind.starts K.WordKind.writtens (contents tables.now) standing.now.order.now sheet.old.places.now) result }
+    ensures judged { VerdictOn (case R.WaitRule.waits K.WordKind.meaning K.WordKind.starts K.WordKind.writtens (contents standing.entry.tables.now) standing.entry.order.now sheet.old.places.now) result }
     ensures same { sheet.new.places.now ≡ sheet.old.places.now }
     ensures named { sheet.new.places.ghost_name ≡ sheet.old.places.ghost_name }
 {
-    if let Some(e) = first_disorder(tables, standing) {
-        return broken(Axiom::Order, e, None);
+    if let Some(e) = standing.first_disorder() {
+        return Err(broken(Axiom::Order, e, None));
     }
-    if let Some(e) = first_missing(tables, standing) {
-        return broken(Axiom::Termination, e, None);
+    if let Some(e) = standing.first_missing() {
+        return Err(broken(Axiom::Termination, e, None));
     }
-    if let Some((e, f)) = first_load(tables, standing) {
-        return broken(Axiom::LoadOp, e, Some(f));
+    let complete = Complete { standing };
+    if let Some((e, f)) = complete.standing.first_load() {
+        return Err(broken(Axiom::LoadOp, e, Some(f)));
     }
-    if let Some((e, f)) = first_wait(tables, rule, standing) {
-        return broken(Axiom::Wait, e, Some(f));
+    if let Some((e, f)) = complete.standing.first_wait(rule) {
+        return Err(broken(Axiom::Wait, e, Some(f)));
     }
-    if let Some((e, f)) = first_swap(tables, standing) {
-        return broken(Axiom::Atomicity, e, Some(f));
+    if let Some((e, f)) = complete.standing.first_swap() {
+        return Err(broken(Axiom::Atomicity, e, Some(f)));
     }
-    if let Some((n, source)) = first_wrong(tables, kind, standing, sheet) {
-        return broken(Axiom::Value, 2 * n, write_of(source));
+    if let Some((n, source)) = complete.first_wrong(kind, sheet) {
+        return Err(broken(Axiom::Value, 2 * n, write_of(source)));
     }
-    Verdict::Passes
+    Ok(())
 }
 
 /// Judges an order with the words on a sheet: that it passes, or the lowest axiom that it breaks and the events.
@@ -76,6 +71,6 @@ pub fn judge<R: WaitRule, K: WordKind>(
     if let Some(i) = first_lacking(tables, order) {
         return Err(Fault::EventLacking(i));
     }
-    let standing = Standing::of(order);
-    Ok(weigh(tables, rule, kind, &standing, sheet))
+    let standing = Standing::of(tables, order);
+    Ok(weigh(rule, kind, standing, sheet))
 }

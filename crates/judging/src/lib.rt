@@ -2,11 +2,13 @@
 //! comes from.
 #![tactic(auto)]
 
+mod complete;
 mod events;
 pub mod judge;
 mod naming;
 mod pairs;
 pub mod passing;
+mod rows;
 mod sources;
 mod standing;
 mod swaps;

@@ -1,4 +1,4 @@
-// Verdicts from codes of events.
+// Breaches from codes of events.
 ghost use Rattle.std.specs.Prelude.{◌≡◌, ◌<◌};
 ghost use Rattle.tables.specs.Size.{unit};
 ghost use Rattle.tables.specs.Events.{code_of, OfUnit};
@@ -6,7 +6,7 @@ ghost use Rattle.model.specs.Verdicts.{write_of};
 ghost use Rattle.judging.specs.Namings.{WithinCodes, NamedIf, Tells};
 ghost use Rattle.judging.specs.Sources.{Within};
 
-use model::verdict::{Axiom, Verdict};
+use model::verdict::{Axiom, Breach};
 use tables::event::Event;
 
 // The event of a code.
@@ -15,9 +15,9 @@ fn event_of(code: usize) -> Event
     ensures inside { OfUnit unit result }
     ensures coded { code_of unit result ≡ code }
 {
-    match Event::from_code(code as u32) {
-        Some(event) => event,
-        None => unreachable(),
+    match Event::try_from(code as u32) {
+        Ok(event) => event,
+        Err(_) => unreachable(),
     }
 }
 
@@ -26,10 +26,7 @@ pub(crate) fn event_if(code: Option<usize>) -> Option<Event>
     requires { WithinCodes code }
     ensures { NamedIf unit code result }
 {
-    match code {
-        Some(code) => Some(event_of(code)),
-        None => None,
-    }
+    code.map(event_of)
 }
 
 // The code of the line's write, if there is a line.
@@ -38,16 +35,17 @@ pub(crate) fn write_of(line: Option<usize>) -> Option<usize>
     ensures value { result ≡ write_of line }
     ensures inside { WithinCodes result }
 {
-    match line {
-        Some(m) => Some(2 * m + 1),
-        None => None,
-    }
+    line.map(|m| 2 * m + 1)
 }
 
-// The verdict that the axiom is broken by these events.
-pub(crate) fn broken(axiom: Axiom, first: usize, second: Option<usize>) -> Verdict
+// The breach of the axiom by these events.
+pub(crate) fn broken(axiom: Axiom, first: usize, second: Option<usize>) -> Breach
     requires { (first < 256) × (WithinCodes second) }
     ensures { Tells unit «axiom» first second result }
 {
-    Verdict::Broken(axiom, event_of(first), event_if(second))
+    Breach {
+        axiom,
+        first: event_of(first),
+        second: event_if(second),
+    }
 }

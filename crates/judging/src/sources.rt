@@ -1,15 +1,16 @@
 // The write that a read should have.
 ghost use Rattle.std.specs.Prelude.{◌≡◌, ◌*◌, ◌/◌, ◌<◌, true};
 ghost use Rattle.tables.specs.Contents.{contents};
-ghost use Rattle.tables.specs.Size.{unit};
+ghost use Rattle.tables.specs.Size.{unit, wr};
 ghost use Rattle.tables.specs.View.{reads_at};
 ghost use Rattle.rules.specs.Waits.{Waits};
 ghost use Rattle.model.specs.Program.{program};
 ghost use Rattle.model.specs.Axioms.{Should};
-ghost use Rattle.judging.specs.Sources.{Settled, Best, Later, Within};
+ghost use Rattle.model.proofs.Positions.{place};
+ghost use Rattle.judging.specs.Sources.{Best, Later, Within};
 ghost use Rattle.judging.specs.Tests.{writes_cell};
 
-use crate::standing::Standing;
+use crate::complete::Complete;
 use tables::LINES;
 use tables::tables::Tables;
 
@@ -20,44 +21,53 @@ fn writes_cell(tables: &Tables, n: usize, m: usize) -> bool
     tables.writes(m) && tables.cell(m) == tables.cell(n)
 }
 
-// The last write to the cell of line `n` that stands before its read.
-fn last_before(tables: &Tables, standing: &Standing, n: usize) -> Option<usize>
-    requires line { n < 128 }
-    requires settled { Settled unit (contents tables.now) standing.now.order.now }
-    ensures { Best unit (contents tables.now) standing.now.order.now n (n / 32 * 32) result }
-{
-    for i in (0..standing.places[2 * n]).rev() {
-        let e = standing.order[i] as usize;
-        if e % 2 == 1 && writes_cell(tables, n, e / 2) {
-            return Some(e / 2);
+impl<'a> Complete<'a> {
+    // The last write to the cell of line `n` that stands before its read.
+    fn last_before(&self, n: usize) -> Option<usize>
+        requires { n < 128 }
+        ensures { Best unit (contents self.now.standing.tables.now) self.now.standing.order.now n (n / 32 * 32) result }
+    {
+        let before = &self.standing.order[..self.standing.stands[2 * n].place];
+        let i = before.iter().rposition(|&code| {
+            let e = code as usize;
+            e % 2 == 1 && writes_cell(self.standing.tables, n, e / 2)
+        })?;
+        Some(self.standing.order[i] as usize / 2)
+    }
+
+    // Where the write of line `m` stands first.
+    fn write_place(&self, m: usize) -> usize
+        requires { m < 128 }
+        ensures { result ≡ place self.now.standing.order.now (wr m) }
+    {
+        self.standing.stands[2 * m + 1].place
+    }
+
+    // Whether the write of line `m` stands later than that of `best`, or there is no best.
+    fn is_later(&self, best: Option<usize>, m: usize) -> bool
+        requires { (Within best) × (m < 128) }
+        ensures { Later self.now.standing.order.now best m result }
+    {
+        // `is_none_or` tells the proof nothing of what a closure over the standing returns.
+        match best {
+            None => true,
+            Some(b) => self.write_place(b) < self.write_place(m),
         }
     }
-    None
-}
 
-// Whether the write of line `m` stands later than that of `best`, or there is no best.
-fn is_later(standing: &Standing, best: Option<usize>, m: usize) -> bool
-    requires { (Within best) × (m < 128) }
-    ensures { Later standing.now.order.now best m result }
-{
-    match best {
-        None => true,
-        Some(b) => standing.places[2 * b + 1] < standing.places[2 * m + 1],
-    }
-}
-
-// The line whose write the read of line `n` should have, or none for the start word.
-pub(crate) fn source(tables: &Tables, standing: &Standing, n: usize) -> Option<usize>
-    requires reads { reads_at unit (contents tables.now) n ≡ true }
-    requires settled { Settled unit (contents tables.now) standing.now.order.now }
-    ensures should { (w : Waits) → Should (program unit w (contents tables.now)) standing.now.order.now n result }
-    ensures within { Within result }
-{
-    let mut best = last_before(tables, standing, n);
-    for m in n / LINES * LINES..n {
-        if writes_cell(tables, n, m) && is_later(standing, best, m) {
-            best = Some(m);
+    // The line whose write the read of line `n` should have, or none for the start word.
+    pub(crate) fn source(&self, n: usize) -> Option<usize>
+        requires { reads_at unit (contents self.now.standing.tables.now) n ≡ true }
+        ensures should { (w : Waits) → Should (program unit w (contents self.now.standing.tables.now)) self.now.standing.order.now n result }
+        ensures within { Within result }
+    {
+        let mut best = self.last_before(n);
+        // A loop, plainer than a fold that hands the best on.
+        for m in n / LINES * LINES..n {
+            if writes_cell(self.standing.tables, n, m) && self.is_later(best, m) {
+                best = Some(m);
+            }
         }
+        best
     }
-    best
 }

@@ -10,33 +10,21 @@ ghost use Rattle.model.specs.Trace.{ReadTrace, WriteTrace};
 ghost use Rattle.model.proofs.Positions.{place};
 ghost use Rattle.judging.specs.Asks.{asked_line, ask_refused};
 ghost use Rattle.judging.specs.Case.{case, Answered, PassesAll};
-ghost use Rattle.judging.specs.Outcomes.{verdicts, IfPassed, rows_of, order_of, ReadsFrom, TracedOn};
+ghost use Rattle.judging.specs.Outcomes.{IfPassed, rows_of, order_of, ReadsFrom, TracedOn};
 ghost use Rattle.judging.specs.Traces.{reach};
 
+use crate::passing;
+use crate::passing::Passing;
 use crate::passing::asks::pass;
-use crate::passing::{Outcome, Passing};
-use crate::values::operand_at;
-use crate::{passing, sources};
 use faults::Fault;
-use model::verdict::End;
+use model::stored::copied_place;
+use model::verdict::Verdict;
 use rules::sheet::Sheet;
 use rules::wait::WaitRule;
-use rules::words::WordKind;
+use rules::words::{Origin, WordKind};
+use tables::LINES;
 use tables::event::Event;
-use tables::line::Operand;
 use tables::tables::Tables;
-use tables::{LINES, PROCESSORS};
-
-// The line whose word line `m` copies, if it copies one.
-fn copied(tables: &Tables, m: usize) -> Option<usize>
-    requires { m < 128 }
-    ensures { result ≡ copy_at unit (contents tables.now) m }
-{
-    match operand_at(tables, m) {
-        Operand::Written(_) => None,
-        Operand::Copied(line) => Some(m / LINES * LINES + (line as usize).saturating_sub(1)),
-    }
-}
 
 // The trace of the read of line `n`, which the write that it should have goes on with.
 #[cycle(trace_read_trace_write)]
@@ -45,16 +33,16 @@ pub(crate) fn trace_read(passing: &Passing, n: usize) -> passing::Trace
     ensures is { (w : Waits) → ReadTrace (program unit w (rows_of passing.now)) (copy_at unit (rows_of passing.now)) (order_of passing.now) n result.end result.reads }
     ensures few { result.reads ≤ suc (place (order_of passing.now) (rd n)) }
 {
-    match sources::source(passing.tables, &passing.standing, n) {
+    match passing.complete.source(n) {
         None => passing::Trace {
-            end: End::Start(passing.tables.cell(n)),
+            end: Origin::Start(passing.complete.standing.tables.cell(n)),
             reads: 1,
         },
         Some(m) => {
             let trace = trace_write(passing, m);
             passing::Trace {
-                end: trace.end,
                 reads: trace.reads + 1,
+                ..trace
             }
         }
     }
@@ -67,9 +55,9 @@ fn trace_write(passing: &Passing, m: usize) -> passing::Trace
     ensures is { (w : Waits) → WriteTrace (program unit w (rows_of passing.now)) (copy_at unit (rows_of passing.now)) (order_of passing.now) m result.end result.reads }
     ensures few { result.reads ≤ reach (order_of passing.now) (copy_at unit (rows_of passing.now) m) }
 {
-    match copied(passing.tables, m) {
+    match copied_place(passing.complete.standing.tables, m) {
         None => passing::Trace {
-            end: End::Written((m / LINES + 1) as u8, (m % LINES + 1) as u8),
+            end: Origin::Line((m / LINES + 1) as u8, (m % LINES + 1) as u8),
             reads: 0,
         },
         Some(k) => trace_read(passing, k),
@@ -82,23 +70,11 @@ fn asked_place(tables: &Tables, processor: u32, line: u32) -> Result<usize, Faul
         (λ n. (ask_refused (contents tables.now) processor line ≡ None) × (n ≡ asked_line processor line) × (reads_at unit (contents tables.now) n ≡ true))
         (λ e. ask_refused (contents tables.now) processor line ≡ Some e) }
 {
-    if processor < 1 || processor as usize > PROCESSORS {
-        return Err(Fault::ProcessorUnknown);
+    let place = tables.place_of(processor, line)?;
+    if !tables.reads(place) {
+        return Err(Fault::NothingRead(line as usize));
     }
-    if line < 1 || line as usize > LINES {
-        return Err(Fault::LineUnknown(line as usize));
-    }
-    let place = (processor as usize - 1) * LINES + (line as usize - 1);
-    match tables.line_at(place) {
-        None => Err(Fault::LineUnknown(line as usize)),
-        Some(found) => {
-            if found.access.kind().reads() {
-                Ok(place)
-            } else {
-                Err(Fault::NothingRead(line as usize))
-            }
-        }
-    }
+    Ok(place)
 }
 
 /// The write that the read of a line should have, or none for the start word. Refuses a processor or a line that is not
@@ -111,19 +87,16 @@ pub fn source<'a, R: WaitRule, K: WordKind>(
     sheet: &mut Sheet<K::Word>,
     processor: u32,
     line: u32,
-) -> Result<Outcome<Option<Event>>, Fault>
+) -> Result<Verdict<Option<Event>>, Fault>
     ensures refused { (e : Fault) → ask_refused (contents tables.now) processor line ≡ Some e → result ≡ Err e }
-    ensures judged { ask_refused (contents tables.now) processor line ≡ None → Answered (case R.WaitRule.waits K.WordKind.meaning K.WordKind.starts K.WordKind.writtens (contents tables.now) order.now sheet.old.places.now) (length sheet.old.places.now) (verdicts result) }
-    ensures exactly { ask_refused (contents tables.now) processor line ≡ None → PassesAll (case R.WaitRule.waits K.WordKind.meaning K.WordKind.starts K.WordKind.writtens (contents tables.now) order.now sheet.old.places.now) (length sheet.old.places.now) (verdicts result) }
+    ensures judged { ask_refused (contents tables.now) processor line ≡ None → Answered (case R.WaitRule.waits K.WordKind.meaning K.WordKind.starts K.WordKind.writtens (contents tables.now) order.now sheet.old.places.now) (length sheet.old.places.now) result }
+    ensures exactly { ask_refused (contents tables.now) processor line ≡ None → PassesAll (case R.WaitRule.waits K.WordKind.meaning K.WordKind.starts K.WordKind.writtens (contents tables.now) order.now sheet.old.places.now) (length sheet.old.places.now) result }
     ensures passed { IfPassed result (ReadsFrom (program unit R.WaitRule.waits (contents tables.now)) order.now (asked_line processor line)) }
     ensures same { sheet.new.places.now ≡ sheet.old.places.now }
     ensures named { sheet.new.places.ghost_name ≡ sheet.old.places.ghost_name }
 {
     let place = asked_place(tables, processor, line)?;
-    match pass(tables, rule, kind, order, sheet)? {
-        Outcome::Broken(axiom, first, second) => Ok(Outcome::Broken(axiom, first, second)),
-        Outcome::Passed(passing) => Ok(Outcome::Passed(passing.source_of(place))),
-    }
+    Ok(pass(tables, rule, kind, order, sheet)?.map(|passing| passing.source_of(place)))
 }
 
 /// Where the word that a line read comes from, and how many reads the trace met. Refuses a processor or a line that is not
@@ -136,17 +109,14 @@ pub fn trace<'a, R: WaitRule, K: WordKind>(
     sheet: &mut Sheet<K::Word>,
     processor: u32,
     line: u32,
-) -> Result<Outcome<passing::Trace>, Fault>
+) -> Result<Verdict<passing::Trace>, Fault>
     ensures refused { (e : Fault) → ask_refused (contents tables.now) processor line ≡ Some e → result ≡ Err e }
-    ensures judged { ask_refused (contents tables.now) processor line ≡ None → Answered (case R.WaitRule.waits K.WordKind.meaning K.WordKind.starts K.WordKind.writtens (contents tables.now) order.now sheet.old.places.now) (length sheet.old.places.now) (verdicts result) }
-    ensures exactly { ask_refused (contents tables.now) processor line ≡ None → PassesAll (case R.WaitRule.waits K.WordKind.meaning K.WordKind.starts K.WordKind.writtens (contents tables.now) order.now sheet.old.places.now) (length sheet.old.places.now) (verdicts result) }
+    ensures judged { ask_refused (contents tables.now) processor line ≡ None → Answered (case R.WaitRule.waits K.WordKind.meaning K.WordKind.starts K.WordKind.writtens (contents tables.now) order.now sheet.old.places.now) (length sheet.old.places.now) result }
+    ensures exactly { ask_refused (contents tables.now) processor line ≡ None → PassesAll (case R.WaitRule.waits K.WordKind.meaning K.WordKind.starts K.WordKind.writtens (contents tables.now) order.now sheet.old.places.now) (length sheet.old.places.now) result }
     ensures passed { IfPassed result (TracedOn R.WaitRule.waits K.WordKind.meaning K.WordKind.starts K.WordKind.writtens (contents tables.now) order.now sheet.old.places.now (asked_line processor line)) }
     ensures same { sheet.new.places.now ≡ sheet.old.places.now }
     ensures named { sheet.new.places.ghost_name ≡ sheet.old.places.ghost_name }
 {
     let place = asked_place(tables, processor, line)?;
-    match pass(tables, rule, kind, order, sheet)? {
-        Outcome::Broken(axiom, first, second) => Ok(Outcome::Broken(axiom, first, second)),
-        Outcome::Passed(passing) => Ok(Outcome::Passed(trace_read(&passing, place))),
-    }
+    Ok(pass(tables, rule, kind, order, sheet)?.map(|passing| trace_read(&passing, place)))
 }

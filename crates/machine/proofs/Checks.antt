@@ -1,18 +1,21 @@
 -- Which test of a call is the first that fails.
-use Rattle.std.proofs.Common.{◌≡◌, ℕ, ◌-◌, ◌<◌, ◌≤◌, Bool, true, false, ◌&&◌, ◌||◌, eqb, ltb, leb, ◌⊎◌, List, [], ◌∷◌, Some, None, Option, sym, refl, ap, ◌∙◌, subst, inl, inr, arith}
-use Rattle.std.proofs.lemmas.Bool.{and_left, and_right, and_from, lt-ltb, le-ltb, le-leb, lt-leb, not_from_false, not_from_true, eq-eqb, ne_eqb}
+use Rattle.std.proofs.Common.{◌≡◌, ℕ, zero, suc, ◌-◌, ◌<◌, ◌≤◌, Bool, true, false, cond, ◌&&◌, ◌||◌, eqb, ltb, leb, ◌⊎◌, List, [], ◌∷◌, length, get_or, Some, None, Option, sym, refl, ap, ◌∙◌, subst, inl, inr, arith}
+use Rattle.std.proofs.lemmas.Bool.{cases_lt, cond-true, cond-false, and_left, and_right, and_from, lt-ltb, le-ltb, le-leb, lt-leb, not_from_false, not_from_true, eq-eqb, ne_eqb}
 use Rattle.faults.specs.declared.Fault.{Fault}
 use Rattle.faults.specs.declared.Fault.TheVariants.{ProcessorUnknown, LineUnknown, SheetShort, NoLineLeft, IssueWaits, SwapHalfDone, NotHeld, DrainWaits}
 use Rattle.tables.specs.declared.line.Kind.{Kind}
 use Rattle.tables.specs.declared.line.Kind.TheVariants.{Load, Store, Swap}
 use Rattle.tables.specs.declared.line.Line.{Line}
-use Rattle.tables.specs.Size.{unit, number, places, rd}
-use Rattle.tables.specs.Lines.{kind_of, reads, writes, line_reads, line_writes}
-use Rattle.tables.specs.Rows.{Rows}
+use Rattle.tables.specs.Size.{unit, number, row, places, rd}
+use Rattle.tables.specs.Lines.{nth, kind_of, reads, writes, line_reads, line_writes}
+use Rattle.tables.specs.Rows.{Rows, empty}
 use Rattle.tables.specs.View.{line_at, of_line}
+use Rattle.tables.specs.Places.{no_line, line_refused}
+use Rattle.tables.proofs.Numbering.{table_number, row_number}
 use Rattle.rules.specs.Waits.{Waits}
 use Rattle.model.specs.Program.{Program, program}
 use Rattle.model.specs.Machine.{State, ask, bar, first, is_processor, has_line, has_next, next, told, blocker, other_half, issue_refusal, drain_refusal}
+use Rattle.model.proofs.Extremes.{some≢none}
 
 -- the first of five tests
 module _ (f₁ f₂ f₃ : Fault) (b₁ b₂ b₃ : Bool) (f₄ : ℕ → Fault) (b₄ : Bool) (o : Option ℕ) (f₅ : ℕ → Fault) (b₅ : Bool) (h : Option ℕ) where
@@ -86,6 +89,70 @@ waits_at_drain m = DrainWaits (told unit m)
 abbrev half_done : ℕ → Fault
 half_done j = SwapHalfDone (rd j)
 
+-- the line of a table's row
+nth_inside : (xs : List Line) (k : ℕ) (x : Line) → nth xs k ≡ Some x → k < length xs
+nth_inside [] k x e = let z : ◌≡◌ {A = ℕ} 0 1 = cc in let y : ⊥ = omega arith in absurd y
+nth_inside (y ∷ xs) zero x e = omega arith
+nth_inside (y ∷ xs) (suc k) x e = let h = nth_inside xs k x e in omega arith
+
+row_is : (ts : List Rows) (q k : ℕ) → k < 32 → line_at unit ts (number unit q k) ≡ nth (get_or ts q empty).lines k
+row_is ts q k h =
+    ap (λ (x : ℕ). nth (get_or ts x empty).lines (row unit (number unit q k))) (table_number unit q k h)
+    ∙ ap (λ (x : ℕ). nth (get_or ts q empty).lines x) (row_number unit q k h)
+
+-- line l of processor p is a line
+module _ (ts : List Rows) (p l : ℕ) where
+  pub record There : Type 0 where
+    pub processor : 0 < p
+    pub known : p ≤ 4
+    pub counted : 0 < l
+    pub fits : l ≤ 32
+    pub line : Line
+    pub is : Some line ≡ line_at unit ts (number unit (p - 1) (l - 1))
+
+  abbrev after_1 : Option Fault
+  after_1 = cond (ltb 4 p) (Some ProcessorUnknown) (cond (ltb l 1) (Some (LineUnknown l)) (no_line l (nth (get_or ts (p - 1) empty).lines (l - 1))))
+
+  abbrev after_2 : Option Fault
+  after_2 = cond (ltb l 1) (Some (LineUnknown l)) (no_line l (nth (get_or ts (p - 1) empty).lines (l - 1)))
+
+  abbrev after_3 : Option Fault
+  after_3 = no_line l (nth (get_or ts (p - 1) empty).lines (l - 1))
+
+  r_1 : p < 1 → line_refused ts p l ≡ Some ProcessorUnknown
+  r_1 a = cond-true (ltb p 1) (Some ProcessorUnknown) after_1 (lt-ltb p 1 a)
+
+  r_2 : 1 ≤ p → 4 < p → line_refused ts p l ≡ Some ProcessorUnknown
+  r_2 a b = cond-false (ltb p 1) (Some ProcessorUnknown) after_1 (le-ltb p 1 a) ∙ cond-true (ltb 4 p) (Some ProcessorUnknown) after_2 (lt-ltb 4 p b)
+
+  r_3 : 1 ≤ p → p ≤ 4 → l < 1 → line_refused ts p l ≡ Some (LineUnknown l)
+  r_3 a b c =
+      cond-false (ltb p 1) (Some ProcessorUnknown) after_1 (le-ltb p 1 a) ∙ cond-false (ltb 4 p) (Some ProcessorUnknown) after_2 (le-ltb 4 p b)
+      ∙ cond-true (ltb l 1) (Some (LineUnknown l)) after_3 (lt-ltb l 1 c)
+
+  r_4 : 1 ≤ p → p ≤ 4 → 1 ≤ l → line_refused ts p l ≡ after_3
+  r_4 a b c =
+      cond-false (ltb p 1) (Some ProcessorUnknown) after_1 (le-ltb p 1 a) ∙ cond-false (ltb 4 p) (Some ProcessorUnknown) after_2 (le-ltb 4 p b)
+      ∙ cond-false (ltb l 1) (Some (LineUnknown l)) after_3 (le-ltb l 1 c)
+
+  pub there : ((q : ℕ) → length (get_or ts q empty).lines ≤ 32) → line_refused ts p l ≡ None → There
+  there few e = elim (cases_lt p 1) [
+    | inl a ↦ absurd (some≢none ProcessorUnknown (sym (r_1 a) ∙ e))
+    | inr a ↦ elim (cases_lt 4 p) [
+      | inl b ↦ absurd (some≢none ProcessorUnknown (sym (r_2 a b) ∙ e))
+      | inr b ↦ elim (cases_lt l 1) [
+        | inl c ↦ absurd (some≢none (LineUnknown l) (sym (r_3 a b c) ∙ e))
+        | inr c ↦ go a b c (nth (get_or ts (p - 1) empty).lines (l - 1)) refl (sym (r_4 a b c) ∙ e)
+      ]
+    ]
+  ]
+    where
+      go : 1 ≤ p → p ≤ 4 → 1 ≤ l → (x : Option Line) → nth (get_or ts (p - 1) empty).lines (l - 1) ≡ x → no_line l x ≡ None → There
+      go a b c None q r = absurd (some≢none (LineUnknown l) r)
+      go a b c (Some k) q r =
+          let h = nth_inside (get_or ts (p - 1) empty).lines (l - 1) k q in let f = few (p - 1) in
+          record { processor = a; known = b; counted = c; fits = omega arith; line = k; is = sym (row_is ts (p - 1) (l - 1) (omega arith) ∙ q) }
+
 -- a drain of line l of processor p
 module _ (w : Waits) (ts : List Rows) (s : State) (p l : ℕ) where
   abbrev P : Program
@@ -94,49 +161,62 @@ module _ (w : Waits) (ts : List Rows) (s : State) (p l : ℕ) where
   abbrev N : ℕ
   N = number unit (p - 1) (l - 1)
 
-  abbrev there : Bool
-  there = ltb 0 l && has_line P (p - 1) (l - 1)
+  abbrev here : Bool
+  here = ltb 0 l && has_line P (p - 1) (l - 1)
 
-  pub drain_12 : (p < 1) ⊎ (4 < p) → drain_refusal P s p l ≡ Some ProcessorUnknown
-  drain_12 h = at_1 ProcessorUnknown (LineUnknown l) (NotHeld l) (is_processor unit p) there (s.held N) waits_at_drain true (blocker P s N) half_done (other_half s.half N) s.half (proc_no p h)
+  drain_12 : (p < 1) ⊎ (4 < p) → drain_refusal P s p l ≡ Some ProcessorUnknown
+  drain_12 h = at_1 ProcessorUnknown (LineUnknown l) (NotHeld l) (is_processor unit p) here (s.held N) waits_at_drain true (blocker P s N) half_done (other_half s.half N) s.half (proc_no p h)
 
-  module _ (hp : 0 < p) (hp4 : p ≤ 4) where
-    pub drain_13 : (l < 1) ⊎ (32 < l) → drain_refusal P s p l ≡ Some (LineUnknown l)
-    drain_13 h = at_2 ProcessorUnknown (LineUnknown l) (NotHeld l) (is_processor unit p) there (s.held N) waits_at_drain true (blocker P s N) half_done (other_half s.half N) s.half
-        (proc_yes p hp hp4) (elim h [
-          | inl k ↦ and_left (ltb 0 l) (has_line P (p - 1) (l - 1)) (le-ltb 0 l (omega arith))
-          | inr k ↦ and_right (ltb 0 l) (has_line P (p - 1) (l - 1)) (line_far w ts (p - 1) (l - 1) (omega arith))
-        ])
+  drain_13 : 0 < p → p ≤ 4 → here ≡ false → drain_refusal P s p l ≡ Some (LineUnknown l)
+  drain_13 hp hp4 = at_2 ProcessorUnknown (LineUnknown l) (NotHeld l) (is_processor unit p) here (s.held N) waits_at_drain true (blocker P s N) half_done (other_half s.half N) s.half (proc_yes p hp hp4)
 
-    module _ (hl : 0 < l) (hl32 : l ≤ 32) (n : ℕ) (e : n ≡ N) where
-      pub drain_absent : None ≡ line_at unit ts n → drain_refusal P s p l ≡ Some (LineUnknown l)
-      drain_absent h = at_2 ProcessorUnknown (LineUnknown l) (NotHeld l) (is_processor unit p) there (s.held N) waits_at_drain true (blocker P s N) half_done (other_half s.half N) s.half
-          (proc_yes p hp hp4) (and_right (ltb 0 l) (has_line P (p - 1) (l - 1)) (line_no w ts (p - 1) (l - 1) (subst (λ (i : ℕ). None ≡ line_at unit ts i) e h)))
+  -- where the tables know no such line
+  pub drain_absent : (f : Fault) → line_refused ts p l ≡ Some f → drain_refusal P s p l ≡ Some f
+  drain_absent f e = elim (cases_lt p 1) [
+    | inl a ↦ drain_12 (inl a) ∙ sym (r_1 ts p l a) ∙ e
+    | inr a ↦ elim (cases_lt 4 p) [
+      | inl b ↦ drain_12 (inr b) ∙ sym (r_2 ts p l a b) ∙ e
+      | inr b ↦ elim (cases_lt l 1) [
+        | inl c ↦ drain_13 a b (and_left (ltb 0 l) (has_line P (p - 1) (l - 1)) (le-ltb 0 l (omega arith))) ∙ sym (r_3 ts p l a b c) ∙ e
+        | inr c ↦ go a b (nth (get_or ts (p - 1) empty).lines (l - 1)) refl (sym (r_4 ts p l a b c) ∙ e)
+      ]
+    ]
+  ]
+    where
+      none : nth (get_or ts (p - 1) empty).lines (l - 1) ≡ None → has_line P (p - 1) (l - 1) ≡ false
+      none q = elim (cases_lt (l - 1) 32) [
+        | inl h ↦ line_no w ts (p - 1) (l - 1) (sym (row_is ts (p - 1) (l - 1) h ∙ q))
+        | inr h ↦ line_far w ts (p - 1) (l - 1) h
+      ]
 
-      module _ (k : Line) (h : Some k ≡ line_at unit ts n) where
-        is_there : there ≡ true
-        is_there = and_from (ltb 0 l) (has_line P (p - 1) (l - 1)) (lt-ltb 0 l hl)
-            (line_yes w ts (p - 1) (l - 1) k (omega arith) (subst (λ (i : ℕ). Some k ≡ line_at unit ts i) e h))
+      go : 1 ≤ p → p ≤ 4 → (x : Option Line) → nth (get_or ts (p - 1) empty).lines (l - 1) ≡ x → no_line l x ≡ Some f → drain_refusal P s p l ≡ Some f
+      go a b None q r = drain_13 a b (and_right (ltb 0 l) (has_line P (p - 1) (l - 1)) (none q)) ∙ r
+      go a b (Some k) q r = absurd (some≢none f (sym r))
 
-        pub drain_25 : false ≡ s.held n → drain_refusal P s p l ≡ Some (NotHeld l)
-        drain_25 d = at_3 ProcessorUnknown (LineUnknown l) (NotHeld l) (is_processor unit p) there (s.held N) waits_at_drain true (blocker P s N) half_done (other_half s.half N) s.half
-            (proc_yes p hp hp4) is_there (sym (subst (λ (i : ℕ). false ≡ s.held i) e d))
+  module _ (t : There ts p l) (n : ℕ) (e : n ≡ N) where
+    is_here : here ≡ true
+    is_here = let h = t.fits in let c = t.counted in
+        and_from (ltb 0 l) (has_line P (p - 1) (l - 1)) (lt-ltb 0 l t.counted) (line_yes w ts (p - 1) (l - 1) t.line (omega arith) t.is)
 
-        module _ (d : true ≡ s.held n) where
-          pub drain_26 : (m : ℕ) → Some m ≡ blocker P s n → drain_refusal P s p l ≡ Some (DrainWaits (told unit m))
-          drain_26 m b = at_4 ProcessorUnknown (LineUnknown l) (NotHeld l) (is_processor unit p) there (s.held N) waits_at_drain true (blocker P s N) half_done (other_half s.half N) s.half
-              m (proc_yes p hp hp4) is_there (sym (subst (λ (i : ℕ). true ≡ s.held i) e d)) refl (sym (subst (λ (i : ℕ). Some m ≡ blocker P s i) e b))
+    pub drain_25 : false ≡ s.held n → drain_refusal P s p l ≡ Some (NotHeld l)
+    drain_25 d = at_3 ProcessorUnknown (LineUnknown l) (NotHeld l) (is_processor unit p) here (s.held N) waits_at_drain true (blocker P s N) half_done (other_half s.half N) s.half
+        (proc_yes p t.processor t.known) is_here (sym (subst (λ (i : ℕ). false ≡ s.held i) e d))
 
-          module _ (b : None ≡ blocker P s n) where
-            pub drain_24 : (j : ℕ) → s.half ≡ Some j → (j ≡ n → ⊥) → drain_refusal P s p l ≡ Some (SwapHalfDone (rd j))
-            drain_24 j q r = at_5 ProcessorUnknown (LineUnknown l) (NotHeld l) (is_processor unit p) there (s.held N) waits_at_drain true (blocker P s N) half_done (other_half s.half N) s.half
-                j (proc_yes p hp hp4) is_there (sym (subst (λ (i : ℕ). true ≡ s.held i) e d)) (bar_free waits_at_drain true (blocker P s N) (subst (λ (i : ℕ). None ≡ blocker P s i) e b))
-                (half_other s.half N j q (λ x. r (x ∙ sym e))) q
+    module _ (d : true ≡ s.held n) where
+      pub drain_26 : (m : ℕ) → Some m ≡ blocker P s n → drain_refusal P s p l ≡ Some (DrainWaits (told unit m))
+      drain_26 m b = at_4 ProcessorUnknown (LineUnknown l) (NotHeld l) (is_processor unit p) here (s.held N) waits_at_drain true (blocker P s N) half_done (other_half s.half N) s.half
+          m (proc_yes p t.processor t.known) is_here (sym (subst (λ (i : ℕ). true ≡ s.held i) e d)) refl (sym (subst (λ (i : ℕ). Some m ≡ blocker P s i) e b))
 
-            pub drain_free : ((j : ℕ) → s.half ≡ Some j → j ≡ n) → drain_refusal P s p l ≡ None
-            drain_free r = at_none ProcessorUnknown (LineUnknown l) (NotHeld l) (is_processor unit p) there (s.held N) waits_at_drain true (blocker P s N) half_done (other_half s.half N) s.half
-                (proc_yes p hp hp4) is_there (sym (subst (λ (i : ℕ). true ≡ s.held i) e d)) (bar_free waits_at_drain true (blocker P s N) (subst (λ (i : ℕ). None ≡ blocker P s i) e b))
-                (half_free half_done s.half N (λ j x. r j x ∙ e))
+      module _ (b : None ≡ blocker P s n) where
+        pub drain_24 : (j : ℕ) → s.half ≡ Some j → (j ≡ n → ⊥) → drain_refusal P s p l ≡ Some (SwapHalfDone (rd j))
+        drain_24 j q r = at_5 ProcessorUnknown (LineUnknown l) (NotHeld l) (is_processor unit p) here (s.held N) waits_at_drain true (blocker P s N) half_done (other_half s.half N) s.half
+            j (proc_yes p t.processor t.known) is_here (sym (subst (λ (i : ℕ). true ≡ s.held i) e d)) (bar_free waits_at_drain true (blocker P s N) (subst (λ (i : ℕ). None ≡ blocker P s i) e b))
+            (half_other s.half N j q (λ x. r (x ∙ sym e))) q
+
+        pub drain_free : ((j : ℕ) → s.half ≡ Some j → j ≡ n) → drain_refusal P s p l ≡ None
+        drain_free r = at_none ProcessorUnknown (LineUnknown l) (NotHeld l) (is_processor unit p) here (s.held N) waits_at_drain true (blocker P s N) half_done (other_half s.half N) s.half
+            (proc_yes p t.processor t.known) is_here (sym (subst (λ (i : ℕ). true ≡ s.held i) e d)) (bar_free waits_at_drain true (blocker P s N) (subst (λ (i : ℕ). None ≡ blocker P s i) e b))
+            (half_free half_done s.half N (λ j x. r j x ∙ e))
 
 -- an issue of processor p
 module _ (w : Waits) (ts : List Rows) (s : State) (room p : ℕ) where
@@ -145,10 +225,6 @@ module _ (w : Waits) (ts : List Rows) (s : State) (room p : ℕ) where
 
   abbrev M : ℕ
   M = next Q s (p - 1)
-
-  pub issue_12 : (p < 1) ⊎ (4 < p) → issue_refusal Q s room p ≡ Some ProcessorUnknown
-  issue_12 h = at_1 ProcessorUnknown (SheetShort room) (NoLineLeft p) (is_processor unit p) (leb (places unit) room) (has_next Q s (p - 1))
-      waits_at_issue (Q.reads M) (blocker Q s M) half_done (Q.reads M && Q.writes M) s.half (proc_no p h)
 
   module _ (hp : 0 < p) (hp4 : p ≤ 4) where
     pub issue_14 : room < 128 → issue_refusal Q s room p ≡ Some (SheetShort room)

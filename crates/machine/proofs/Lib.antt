@@ -2,7 +2,7 @@ pub mod Arrays
 pub mod Writes
 pub mod Scans
 pub mod Checks
-pub mod StoredWords
+pub mod Puts
 pub mod Sweeps
 pub mod Blanks
 pub mod Steps

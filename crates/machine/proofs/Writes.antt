@@ -1,6 +1,6 @@
 -- What always holds of what a machine keeps, after each of its writers; and the state that each leaves.
-use Rattle.std.proofs.Common.{◌≡◌, ℕ, ◌+◌, ◌/◌, ◌%◌, ◌<◌, ◌≤◌, true, false, cond, eqb, List, [], ◌∷◌, ◌++◌, length, get_or, take, set, Some, None, Option, sym, refl, ap, ◌∙◌, subst, inl, inr, arith, length-set}
-use Rattle.std.proofs.lemmas.List.{get_or-set_same, get_or-set_other, take_more_set}
+use Rattle.std.proofs.Common.{◌≡◌, ℕ, ◌+◌, ◌/◌, ◌%◌, ◌<◌, ◌≤◌, true, false, cond, eqb, List, [], ◌∷◌, ◌++◌, length, get_or, set, Some, None, Option, sym, refl, ap, ◌∙◌, subst, inl, inr, arith, length-set}
+use Rattle.std.proofs.lemmas.List.{get_or-set_same, get_or-set_other, length-append}
 use Rattle.std.proofs.lemmas.Bool.{both_ways, cases_eq}
 use Rattle.tables.specs.declared.event.Event.{Event}
 use Rattle.tables.specs.Size.{unit, table, rd, wr}
@@ -9,9 +9,9 @@ use Rattle.model.specs.Machine.{after_issue, after_drain}
 use Rattle.machine.specs.declared.mark.Mark.{Mark}
 use Rattle.machine.specs.declared.mark.Mark.TheVariants.{Waiting, Held, Done}
 use Rattle.machine.specs.declared.inner.Inner.{Inner}
-use Rattle.machine.specs.declared.machine.Machine.{Machine}
 use Rattle.machine.specs.States.{is_held, place_of, line_of, inside}
 use Rattle.machine.specs.Sound.{Sound}
+use Rattle.arrayvec.specs.ArrayVec.{array_vec_len}
 use Rattle.machine.proofs.Arrays.{set_is, same_state, sum_few, count_held, count_drained, count_done, count_more, sum_bump, bump_same, bump_below, bump_least, bump_is}
 
 -- the lengths of its arrays
@@ -19,15 +19,10 @@ pub record Sized (m : Inner) : Type 0 where
   pub marks : length m.marks ≡ 128
   pub issued : length m.issued ≡ 4
   pub last : length m.last ≡ 64
-  pub order : length m.order ≡ 256
-
--- what always holds of a machine
-pub sound : (m : Machine) → Sound m.inner
-sound m = record { few = m.few; room = m.room; fits = m.fits; issued = m.issued; half = m.half; halfway = m.halfway; reading = m.reading; drained = m.drained }
 
 -- a drain of line n, which is held, with its write event and cell
 module _ (m : Inner) (z : Sized m) (s : Sound m) (n : ℕ) (l : n < 128) (h : is_held (get_or m.marks n Waiting) ≡ true) where
-  pub drain_room : m.len < 256
+  pub drain_room : array_vec_len m.order < 256
   drain_room = let a = sum_few m.issued z.issued s.few in let b = count_held m.marks n (omega arith) h in let c = s.room in omega arith
 
   module _ (w : Event) (code cell : ℕ) (at : place_of w ≡ n) (c : cell ≤ 63) where
@@ -38,20 +33,18 @@ module _ (m : Inner) (z : Sized m) (s : Sound m) (n : ℕ) (l : n < 128) (h : is
       issued = m.issued;
       last = set m.last cell (Some w);
       half = None;
-      order = set m.order m.len code;
-      len = m.len + 1;
+      order = record { items = m.order.items ++ code ∷ [] };
     }
 
     pub drain_sound : Sound after_put_drain
     drain_sound = record {
       few = s.few;
-      room = let a = count_drained m.marks n (omega arith) h in let b = s.room in omega arith;
+      room = let a = count_drained m.marks n (omega arith) h in let b = s.room in omega (arith, length-append m.order.items (code ∷ []));
       issued = λ k e. elim (cases_eq k n) [
         | inl q ↦ absurd (both_ways (is_held (get_or (set m.marks n Done) k Waiting))
             (ap is_held (subst (λ (x : ℕ). get_or (set m.marks n Done) x Waiting ≡ Done) (sym q) (get_or-set_same m.marks n Done Waiting (omega arith)))) e)
         | inr q ↦ s.issued k (sym (ap is_held (get_or-set_other m.marks n k Done Waiting q)) ∙ e)
       ];
-      fits = let a = drain_room in omega arith;
       half = λ e q. let x : ◌≡◌ {A = ℕ} 0 1 = cc in let y : ⊥ = omega arith in absurd y;
       halfway = λ e q. let x : ◌≡◌ {A = ℕ} 0 1 = cc in let y : ⊥ = omega arith in absurd y;
       reading = λ e q. let x : ◌≡◌ {A = ℕ} 0 1 = cc in let y : ⊥ = omega arith in absurd y;
@@ -67,11 +60,10 @@ module _ (m : Inner) (z : Sized m) (s : Sound m) (n : ℕ) (l : n < 128) (h : is
 
     pub drain_state : code ≡ wr n → inside after_put_drain ≡ after_drain (inside m) n cell
     drain_state e =
-        let r = drain_room in
         same_state refl (set_is is_held m.marks n Done Waiting (omega arith))
         (set_is line_of m.last cell (Some w) None (omega arith)
         ∙ ap {B = ℕ → Option ℕ} (λ (k i : ℕ). cond (eqb i cell) (Some k) (line_of (get_or m.last i None))) at)
-        (take_more_set m.order m.len code (omega arith) ∙ ap (λ (k : ℕ). take m.len m.order ++ k ∷ []) e) refl
+        (ap (λ (k : ℕ). m.order.items ++ k ∷ []) e) refl
 
 -- the issue of line n, the next of its table
 module _ (m : Inner) (z : Sized m) (s : Sound m) (n : ℕ) (l : n < 128) (next : n % 32 ≡ get_or m.issued (n / 32) 0) where
@@ -87,7 +79,7 @@ module _ (m : Inner) (z : Sized m) (s : Sound m) (n : ℕ) (l : n < 128) (next :
   few' : (q : ℕ) → get_or issued' q 0 ≤ 32
   few' = bump_below m.issued (n / 32) inside_issued 32 s.few (omega arith)
 
-  pub issue_room : m.len < 256
+  pub issue_room : array_vec_len m.order < 256
   issue_room =
       let a = sum_few issued' (length-set m.issued (n / 32) (get_or m.issued (n / 32) 0 + 1) ∙ z.issued) few' in
       let b = sum_bump m.issued (n / 32) inside_issued in
@@ -110,10 +102,8 @@ module _ (m : Inner) (z : Sized m) (s : Sound m) (n : ℕ) (l : n < 128) (next :
       let d : place_of e ≡ n → ⊥ = λ x. let y = subst (λ (i : ℕ). i % 32 < get_or m.issued (i / 32) 0) x b in omega arith in
       ap is_held (get_or-set_other m.marks n (place_of e) v Waiting d) ∙ a
 
-  order_is : (code : ℕ) → code ≡ rd n → take (m.len + 1) (set m.order m.len code) ≡ take m.len m.order ++ rd n ∷ []
-  order_is code e =
-      let r = issue_room in let a = z.order in
-      take_more_set m.order m.len code (omega arith) ∙ ap (λ (k : ℕ). take m.len m.order ++ k ∷ []) e
+  order_is : (code : ℕ) → code ≡ rd n → m.order.items ++ code ∷ [] ≡ m.order.items ++ rd n ∷ []
+  order_is code e = ap (λ (k : ℕ). m.order.items ++ k ∷ []) e
 
   issued_is : ◌≡◌ {A = ℕ → ℕ} (λ p. get_or issued' p 0) (λ p. cond (eqb p (table unit n)) (get_or m.issued p 0 + 1) (get_or m.issued p 0))
   unfolding table
@@ -126,8 +116,7 @@ module _ (m : Inner) (z : Sized m) (s : Sound m) (n : ℕ) (l : n < 128) (next :
     issued = issued';
     last = m.last;
     half = m.half;
-    order = set m.order m.len code;
-    len = m.len + 1;
+    order = record { items = m.order.items ++ code ∷ [] };
   }
 
   abbrev pub after_put_store : Inner
@@ -138,7 +127,6 @@ module _ (m : Inner) (z : Sized m) (s : Sound m) (n : ℕ) (l : n < 128) (next :
     last = m.last;
     half = m.half;
     order = m.order;
-    len = m.len;
   }
 
   abbrev pub after_put_swap : ℕ → Event → Inner
@@ -148,16 +136,14 @@ module _ (m : Inner) (z : Sized m) (s : Sound m) (n : ℕ) (l : n < 128) (next :
     issued = issued';
     last = m.last;
     half = Some r;
-    order = set m.order m.len code;
-    len = m.len + 1;
+    order = record { items = m.order.items ++ code ∷ [] };
   }
 
   pub load_sound : (code : ℕ) → Sound (after_put_load code)
   load_sound code = record {
     few = few';
-    room = let a = count_done m.marks n inside_marks in let b = sum_bump m.issued (n / 32) inside_issued in let c = s.room in omega arith;
+    room = let a = count_done m.marks n inside_marks in let b = sum_bump m.issued (n / 32) inside_issued in let c = s.room in omega (arith, length-append m.order.items (code ∷ []));
     issued = held' Done;
-    fits = let a = issue_room in omega arith;
     half = s.half;
     halfway = half' Done;
     reading = s.reading;
@@ -169,7 +155,6 @@ module _ (m : Inner) (z : Sized m) (s : Sound m) (n : ℕ) (l : n < 128) (next :
     few = few';
     room = let a = count_more m.marks n inside_marks in let b = sum_bump m.issued (n / 32) inside_issued in let c = s.room in omega arith;
     issued = held' Held;
-    fits = s.fits;
     half = s.half;
     halfway = half' Held;
     reading = s.reading;
@@ -179,9 +164,8 @@ module _ (m : Inner) (z : Sized m) (s : Sound m) (n : ℕ) (l : n < 128) (next :
   pub swap_sound : (code : ℕ) (r : Event) → place_of r ≡ n → bit_of r.side ≡ 0 → Sound (after_put_swap code r)
   swap_sound code r at side = record {
     few = few';
-    room = let a = count_more m.marks n inside_marks in let b = sum_bump m.issued (n / 32) inside_issued in let c = s.room in omega arith;
+    room = let a = count_more m.marks n inside_marks in let b = sum_bump m.issued (n / 32) inside_issued in let c = s.room in omega (arith, length-append m.order.items (code ∷ []));
     issued = held' Held;
-    fits = let a = issue_room in omega arith;
     half = λ e q. let x : r ≡ e = cc in let y = ap place_of x in omega arith;
     halfway = λ e q. let x : r ≡ e = cc in
         subst (λ (k : ℕ). is_held (get_or (set m.marks n Held) k Waiting) ≡ true) (sym at ∙ ap place_of x) (ap is_held (get_or-set_same m.marks n Held Waiting inside_marks));

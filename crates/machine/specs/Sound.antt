@@ -2,6 +2,7 @@
 use Rattle.std.specs.Prelude.{◌≡◌, ℕ, ◌+◌, ◌*◌, ◌/◌, ◌%◌, ◌<◌, ◌≤◌, true, Some, None, sum, count_by, slice_index, slice_index_or}
 use Rattle.tables.specs.declared.event.Event.{Event}
 use Rattle.tables.specs.Events.{bit_of}
+use Rattle.arrayvec.specs.ArrayVec.{array_vec_len}
 use Rattle.machine.specs.declared.mark.Mark.TheVariants.{Waiting}
 use Rattle.machine.specs.declared.inner.Inner.{Inner}
 use Rattle.machine.specs.States.{is_held, place_of}
@@ -12,10 +13,7 @@ Few m = (q : ℕ) → slice_index m.issued q ≤ 32
 
 -- each line issued brings at most two events, now or when its write is drained; so the order never overflows
 abbrev pub Room : Inner → Type 0
-Room m = m.len + count_by is_held m.marks ≤ 2 * sum m.issued
-
-abbrev pub Fits : Inner → Type 0
-Fits m = m.len ≤ 256
+Room m = array_vec_len m.order + count_by is_held m.marks ≤ 2 * sum m.issued
 
 -- only lines issued are held
 abbrev pub HeldIssued : Inner → Type 0
@@ -38,7 +36,6 @@ LastInside m = (c : ℕ) (e : Event) → slice_index_or m.last c None ≡ Some e
 pub record Sound (m : Inner) : Type 0 where
   pub few : Few m
   pub room : Room m
-  pub fits : Fits m
   pub issued : HeldIssued m
   pub half : HalfInside m
   pub halfway : HalfHeld m

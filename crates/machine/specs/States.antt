@@ -1,5 +1,5 @@
 -- What a machine keeps, as the state of the model; and what its two smallest writers do.
-use Rattle.std.specs.Prelude.{ℕ, ◌+◌, ◌-◌, Bool, true, false, take, Some, None, Option, slice_index, slice_index_or, slice_set}
+use Rattle.std.specs.Prelude.{ℕ, ◌-◌, Bool, true, false, [], ◌∷◌, ◌++◌, Some, None, Option, slice_index, slice_index_or, slice_set}
 use Rattle.tables.specs.declared.event.Event.{Event}
 use Rattle.tables.specs.Size.{unit, number}
 use Rattle.model.specs.Machine.{State}
@@ -25,7 +25,7 @@ inside m = record {
   issued = λ q. slice_index m.issued q;
   held = λ n. is_held (slice_index_or m.marks n Waiting);
   last = λ c. line_of (slice_index_or m.last c None);
-  order = take m.len m.order;
+  order = m.order.items;
   half = line_of m.half;
 }
 
@@ -38,7 +38,6 @@ marked m n v = record {
   last = m.last;
   half = m.half;
   order = m.order;
-  len = m.len;
 }
 
 -- with one event more in the order
@@ -49,6 +48,5 @@ appended m e = record {
   issued = m.issued;
   last = m.last;
   half = m.half;
-  order = slice_set m.order m.len e;
-  len = m.len + 1;
+  order = record { items = m.order.items ++ e ∷ [] };
 }

@@ -1,8 +1,10 @@
 // What a machine keeps.
 ghost use Rattle.std.specs.Prelude.{◌≡◌, ◌<◌};
+ghost use Rattle.arrayvec.specs.ArrayVec.{array_vec_len};
 ghost use Rattle.machine.specs.States.{marked, appended};
 
 use crate::mark::Mark;
+use arrayvec::ArrayVec;
 use tables::event::Event;
 use tables::tables::Tables;
 use tables::{EVENTS, LAST_CELL, PLACES, PROCESSORS};
@@ -11,7 +13,7 @@ use tables::{EVENTS, LAST_CELL, PLACES, PROCESSORS};
 pub(crate) const CELLS: usize = LAST_CELL as usize + 1;
 
 /// The tables, a mark for each line, how many lines of each table are issued, each cell's last drained write, the read of the
-/// half-done swap, and the order written, which is the first `len` codes.
+/// half-done swap, and the codes of the order written.
 #[derive(Drop)]
 pub(crate) struct Inner {
     pub(crate) tables: Tables,
@@ -19,8 +21,7 @@ pub(crate) struct Inner {
     pub(crate) issued: [usize; PROCESSORS],
     pub(crate) last: [Option<Event>; CELLS],
     pub(crate) half: Option<Event>,
-    pub(crate) order: [u32; EVENTS],
-    pub(crate) len: usize,
+    pub(crate) order: ArrayVec<u32, EVENTS>,
 }
 
 impl Inner {
@@ -34,10 +35,9 @@ impl Inner {
 
     // Writes an event at the end of the order.
     pub(crate) fn append(&mut self, code: u32)
-        requires { self.old.len < 256 }
+        requires { array_vec_len self.old.order < 256 }
         ensures { self.new ≡ appended self.old code }
     {
-        self.order[self.len] = code;
-        self.len += 1;
+        self.order.push(code);
     }
 }

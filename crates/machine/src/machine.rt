@@ -1,5 +1,5 @@
 // The machine.
-ghost use Rattle.machine.specs.Sound.{Few, Room, Fits, HeldIssued, HalfInside, HalfHeld, HalfRead, LastInside};
+ghost use Rattle.machine.specs.Sound.{Sound};
 
 use super::inner::Inner;
 
@@ -15,12 +15,5 @@ mod words;
 #[derive(Drop)]
 pub struct Machine {
     inner: Inner,
-    ghost few: { Few inner },
-    ghost room: { Room inner },
-    ghost fits: { Fits inner },
-    ghost issued: { HeldIssued inner },
-    ghost half: { HalfInside inner },
-    ghost halfway: { HalfHeld inner },
-    ghost reading: { HalfRead inner },
-    ghost drained: { LastInside inner },
+    ghost sound: { Sound inner },
 }

@@ -2,7 +2,8 @@
 ghost use Rattle.std.specs.Prelude.{◌≡◌, map};
 ghost use Rattle.tables.specs.Size.{unit};
 ghost use Rattle.tables.specs.Contents.{contents};
-ghost use Rattle.model.specs.Program.{stored_at};
+ghost use Rattle.rules.specs.Sheets.{IsSameLoan};
+ghost use Rattle.model.specs.Program.{stored_at, words_of};
 ghost use Rattle.model.specs.Machine.{step};
 ghost use Rattle.machine.specs.Machines.{lines_of, program_of};
 ghost use Rattle.machine.specs.Calls.{run_of};
@@ -24,9 +25,9 @@ fn make<R: WaitRule, K: WordKind>(
     sheet: &mut Sheet<K::Word>,
     call: Call,
 )
-    ensures after { run_of machine.new (map K.WordKind.meaning sheet.new.places.now) ≡ step (program_of R.WaitRule.waits machine.old) (stored_at (record { start = K.WordKind.starts; written = K.WordKind.writtens }) unit (lines_of machine.old)) K.WordKind.starts call (run_of machine.old (map K.WordKind.meaning sheet.old.places.now)) }
+    ensures after { run_of machine.new (map K.WordKind.meaning sheet.new.places.now) ≡ step (program_of R.WaitRule.waits machine.old) (stored_at (words_of K.WordKind) unit (lines_of machine.old)) K.WordKind.starts call (run_of machine.old (map K.WordKind.meaning sheet.old.places.now)) }
     ensures tables { lines_of machine.new ≡ lines_of machine.old }
-    ensures named { sheet.new.places.ghost_name ≡ sheet.old.places.ghost_name }
+    ensures named { IsSameLoan sheet.old sheet.new }
 {
     let _ = match call {
         Call::Issue(processor) => machine.issue(rule, kind, sheet, processor),
@@ -43,8 +44,8 @@ pub fn play<R: WaitRule, K: WordKind>(
     sheet: &mut Sheet<K::Word>,
     calls: &[Call],
 ) -> Ended
-    ensures played { Played R.WaitRule.waits (record { start = K.WordKind.starts; written = K.WordKind.writtens }) (contents draft.tables) calls.now (map K.WordKind.meaning sheet.old.places.now) result (map K.WordKind.meaning sheet.new.places.now) }
-    ensures named { sheet.new.places.ghost_name ≡ sheet.old.places.ghost_name }
+    ensures played { Played R.WaitRule.waits (words_of K.WordKind) (contents draft.tables) calls.now (map K.WordKind.meaning sheet.old.places.now) result (map K.WordKind.meaning sheet.new.places.now) }
+    ensures named { IsSameLoan sheet.old sheet.new }
 {
     let mut machine = Machine::close(draft);
     for call in calls {

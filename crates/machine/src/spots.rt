@@ -7,7 +7,8 @@ ghost use Rattle.machine.specs.States.{place_of};
 use tables::LINES;
 use tables::event::{Event, Side};
 
-// The event on this side of the line at a place.
+// The event on this side of the line at a place, from its parts: `Event::try_from` its code could refuse.
+// A place is a plain number, bounded in each contract: it is computed, and a type of its own would be taken apart at each step.
 pub(crate) fn event_of(place: usize, side: Side) -> Event
     requires { place < 128 }
     ensures spot { place_of result ≡ place }
@@ -25,7 +26,5 @@ pub(crate) fn event_of(place: usize, side: Side) -> Event
 pub(crate) fn place_of(event: Event) -> usize
     ensures { result ≡ place_of event }
 {
-    let table = event.processor.saturating_sub(1) as usize;
-    let row = event.line.saturating_sub(1) as usize;
-    LINES * table + row
+    u32::from(event) as usize / 2
 }

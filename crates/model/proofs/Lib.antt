@@ -23,3 +23,4 @@ pub mod SourceWords
 pub mod Schedules
 pub mod CutTables
 pub mod Promises
+pub mod StoredWords

@@ -4,8 +4,8 @@ use native.Mathlib.Decide.{ℕ_discrete, dec_lt}
 use Rattle.std.proofs.lemmas.Bool.{and_parts, and_from, le-leb, lt-leb, leb-true, false≢true, and_right}
 use Rattle.tables.specs.Size.{Earlier, rd, wr, number, table, row, places}
 use Rattle.tables.proofs.Numbering.{number_table_row}
-use Rattle.model.specs.declared.verdict.End.{End}
-use Rattle.model.specs.declared.verdict.End.TheVariants.{Start}
+use Rattle.rules.specs.declared.words.Origin.{Origin}
+use Rattle.rules.specs.declared.words.Origin.TheVariants.{Start}
 use Rattle.model.specs.Program.{Program}
 use Rattle.model.specs.Axioms.{Considered, Newest, Should}
 use Rattle.model.specs.Trace.{end_at, ReadTrace, at_start, at_write, WriteTrace, at_end, at_copy, found, tally, reads_in, Traced}
@@ -95,17 +95,17 @@ module _ {M : Type 0} (P : Program) (stored : (ℕ → M) → ℕ → M) (start 
       omega arith
 
   mutual
-    few_read : {n : ℕ} {e : End} {r : ℕ} → P.reads n ≡ true → ReadTrace P copy o n e r → r ≤ tally (upto n) (places P.size)
+    few_read : {n : ℕ} {e : Origin} {r : ℕ} → P.reads n ≡ true → ReadTrace P copy o n e r → r ≤ tally (upto n) (places P.size)
     few_read {n} x (at_start h p q) = let a = one_at_least n x in omega arith
     few_read {n} x (at_write m s l t q) = let a = few_write n x l t in omega arith
 
     few_write :
-        {m : ℕ} {e : End} {s : ℕ} (n : ℕ) → P.reads n ≡ true → Newest P o n m → WriteTrace P copy o m e s
+        {m : ℕ} {e : Origin} {s : ℕ} (n : ℕ) → P.reads n ≡ true → Newest P o n m → WriteTrace P copy o m e s
         → suc s ≤ tally (upto n) (places P.size)
     few_write n x l (at_end c p q) = let a = one_at_least n x in omega arith
     few_write {m} n x l (at_copy k c t) = let a = few_read (H.reads m k c) t in let b = fewer n k x (falls n m k x l c) in omega arith
 
-  few : (n : ℕ) → P.reads n ≡ true → (e : End) (r : ℕ) → ReadTrace P copy o n e r → r ≤ reads_in P
+  few : (n : ℕ) → P.reads n ≡ true → (e : Origin) (r : ℕ) → ReadTrace P copy o n e r → r ≤ reads_in P
   unfolding upto
   few n x e r t =
       let a = few_read x t in
@@ -113,11 +113,11 @@ module _ {M : Type 0} (P : Program) (stored : (ℕ → M) → ℕ → M) (start 
       omega arith
 
   mutual
-    read_finds : {n : ℕ} {e : End} {r : ℕ} → P.reads n ≡ true → ReadTrace P copy o n e r → found P written start e ≡ words n
+    read_finds : {n : ℕ} {e : Origin} {r : ℕ} → P.reads n ≡ true → ReadTrace P copy o n e r → found P written start e ≡ words n
     read_finds {n} x (at_start h p q) = ap (found P written start) p ∙ sym (A.value_start n x (λ m c. h m (considered_of n m x c)))
     read_finds {n} x (at_write m s l t q) = write_finds t ∙ sym (A.value n m x (latest_of n m x l))
 
-    write_finds : {m : ℕ} {e : End} {s : ℕ} → WriteTrace P copy o m e s → found P written start e ≡ stored words m
+    write_finds : {m : ℕ} {e : Origin} {s : ℕ} → WriteTrace P copy o m e s → found P written start e ≡ stored words m
     write_finds {m} (at_end c p q) = ap (found P written start) p ∙ (found_at P written start m ∙ sym (H.kept m c))
     write_finds {m} (at_copy k c t) = read_finds (H.reads m k c) t ∙ sym (H.handed m k c)
 
@@ -132,7 +132,7 @@ module _ {M : Type 0} (P : Program) (stored : (ℕ → M) → ℕ → M) (start 
 
   mutual
     read_one :
-        {n : ℕ} {e : End} {r : ℕ} → P.reads n ≡ true → ReadTrace P copy o n e r → (e' : End) (r' : ℕ) → ReadTrace P copy o n e' r'
+        {n : ℕ} {e : Origin} {r : ℕ} → P.reads n ≡ true → ReadTrace P copy o n e r → (e' : Origin) (r' : ℕ) → ReadTrace P copy o n e' r'
         → (e ≡ e') × (r ≡ r')
     read_one x (at_start h p q) e' r' (at_start h' p' q') = (p ∙ sym p', q ∙ sym q')
     read_one x (at_start h p q) e' r' (at_write m s l t q') = absurd (h m l.considered)
@@ -143,7 +143,7 @@ module _ {M : Type 0} (P : Program) (stored : (ℕ → M) → ℕ → M) (start 
         (y.0, q ∙ (ap suc y.1 ∙ sym q'))
 
     write_one :
-        {m : ℕ} {e : End} {s : ℕ} → WriteTrace P copy o m e s → (e' : End) (s' : ℕ) → WriteTrace P copy o m e' s'
+        {m : ℕ} {e : Origin} {s : ℕ} → WriteTrace P copy o m e s → (e' : Origin) (s' : ℕ) → WriteTrace P copy o m e' s'
         → (e ≡ e') × (s ≡ s')
     write_one (at_end c p q) e' s' (at_end c' p' q') = (p ∙ sym p', q ∙ sym q')
     write_one (at_end c p q) e' s' (at_copy k c' t') = absurd (some≢none k (sym c' ∙ c))
@@ -163,20 +163,20 @@ module _ {M : Type 0} (P : Program) (stored : (ℕ → M) → ℕ → M) (start 
     )
   ]
 
-  ends_by : (fuel n : ℕ) → place o (rd n) < fuel → P.reads n ≡ true → (e : End) × ((r : ℕ) × ReadTrace P copy o n e r)
+  ends_by : (fuel n : ℕ) → place o (rd n) < fuel → P.reads n ≡ true → (e : Origin) × ((r : ℕ) × ReadTrace P copy o n e r)
   ends_by zero n h x = let z : ⊥ = omega arith in absurd z
   ends_by (suc fuel) n h x = go (should_be n x) (λ k s y. ends_by fuel k (omega arith) y)
     where
       Rec : Type 0
-      Rec = (k : ℕ) → place o (rd k) < place o (rd n) → P.reads k ≡ true → (e : End) × ((r : ℕ) × ReadTrace P copy o k e r)
+      Rec = (k : ℕ) → place o (rd k) < place o (rd n) → P.reads k ≡ true → (e : Origin) × ((r : ℕ) × ReadTrace P copy o k e r)
 
-      by_write : (m : ℕ) → Newest P o n m → (c : Option ℕ) → copy m ≡ c → Rec → (e : End) × ((r : ℕ) × ReadTrace P copy o n e r)
+      by_write : (m : ℕ) → Newest P o n m → (c : Option ℕ) → copy m ≡ c → Rec → (e : Origin) × ((r : ℕ) × ReadTrace P copy o n e r)
       by_write m l None c i = (end_at P m, (1, at_write m 0 l (at_end c refl refl) refl))
       by_write m l (Some k) c i =
           let t = i k (falls n m k x l c) (H.reads m k c) in
           (t.0, (suc t.1.0, at_write m t.1.0 l (at_copy k c t.1.1) refl))
 
-      go : Should P o n None ⊎ ((m : ℕ) × Should P o n (Some m)) → Rec → (e : End) × ((r : ℕ) × ReadTrace P copy o n e r)
+      go : Should P o n None ⊎ ((m : ℕ) × Should P o n (Some m)) → Rec → (e : Origin) × ((r : ℕ) × ReadTrace P copy o n e r)
       go (inl h) i = (Start (P.cell n), (1, at_start h refl refl))
       go (inr (m, l)) i = by_write m l (copy m) refl i
 

@@ -4,6 +4,7 @@ use Rattle.tables.specs.Size.{Size, table, row}
 use Rattle.tables.specs.Rows.{Rows}
 use Rattle.tables.specs.View.{line_at, reads_at, writes_at, cell_at, copy_at, number_at}
 use Rattle.rules.specs.Waits.{Waits, waits_at}
+use Rattle.rules.specs.declared.words.WordKind as word_kind
 
 -- lines by number: whether they read and write, their cell, and who must wait for whom
 pub record Program : Type 0 where
@@ -27,6 +28,10 @@ program z w ts = record {
 pub record Words (M : Type 0) : Type 0 where
   pub start : ℕ → M
   pub written : ℕ → ℕ → ℕ → M
+
+-- the meanings of the words of a kind that code has
+abbrev pub words_of : {K W : Type 0} → (k : word_kind.Ghosts K W) → Words k.Meaning
+words_of k = record { start = k.starts; written = k.writtens }
 
 module _ {M : Type 0} where
   -- the word that a line writes if it copies none

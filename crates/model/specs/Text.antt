@@ -1,13 +1,10 @@
--- How axioms, verdicts and the ends of traces are printed.
-use Rattle.std.specs.Prelude.{ℕ, List, ◌++◌, Some, None, codes, decimal, Option}
+-- How axioms and verdicts are printed.
+use Rattle.std.specs.Prelude.{ℕ, List, ◌++◌, Some, None, Ok, Err, codes, Option, Result}
 use Rattle.tables.specs.declared.event.Event.{Event}
 use Rattle.tables.specs.Events.{event_text}
 use Rattle.model.specs.declared.verdict.Axiom.{Axiom}
 use Rattle.model.specs.declared.verdict.Axiom.TheVariants.{Order, Termination, LoadOp, Wait, Atomicity, Value}
-use Rattle.model.specs.declared.verdict.Verdict.{Verdict}
-use Rattle.model.specs.declared.verdict.Verdict.TheVariants.{Passes, Broken}
-use Rattle.model.specs.declared.verdict.End.{End}
-use Rattle.model.specs.declared.verdict.End.TheVariants.{Written, Start}
+use Rattle.model.specs.declared.verdict.Breach.{Breach}
 
 abbrev pub axiom_text : Axiom → List ℕ
 axiom_text Order = codes "Order"
@@ -23,11 +20,10 @@ event_if_text None = codes "-"
 event_if_text (Some e) = event_text e
 
 -- as: broken Wait 1.1w 1.2r
-abbrev pub verdict_text : Verdict → List ℕ
-verdict_text Passes = codes "passes"
-verdict_text (Broken a e f) = codes "broken " ++ (axiom_text a ++ (codes " " ++ (event_text e ++ (codes " " ++ event_if_text f))))
+abbrev pub breach_text : Breach → List ℕ
+breach_text b =
+    codes "broken " ++ (axiom_text b.axiom ++ (codes " " ++ (event_text b.first ++ (codes " " ++ event_if_text b.second))))
 
--- the line whose word it is, as 2.1, or the start
-abbrev pub end_text : End → List ℕ
-end_text (Written p l) = decimal p ++ (codes "." ++ decimal l)
-end_text (Start c) = codes "start"
+abbrev pub verdict_text : {T : Type 0} → Result T Breach → List ℕ
+verdict_text (Ok t) = codes "passes"
+verdict_text (Err b) = breach_text b

@@ -1,5 +1,5 @@
 -- What a verdict says of an order and its words.
-use Rattle.std.specs.Prelude.{◌≡◌, ℕ, ◌<◌, ◌≤◌, List, Some, None, Option}
+use Rattle.std.specs.Prelude.{◌≡◌, ℕ, ◌<◌, ◌≤◌, List, Some, None, Ok, Err, Option, Result}
 use Rattle.tables.specs.Size.{rd, wr}
 use Rattle.tables.specs.declared.event.Event.{Event}
 use Rattle.tables.specs.Events.{code_of, OfUnit}
@@ -8,8 +8,7 @@ use Rattle.model.specs.Axioms.{OrderKept, OrderBroken, TerminationKept, Terminat
 use Rattle.model.specs.Naming.{by_code, Least, LeastPair}
 use Rattle.model.specs.declared.verdict.Axiom.{Axiom}
 use Rattle.model.specs.declared.verdict.Axiom.TheVariants.{Order, Termination, LoadOp, Wait, Atomicity, Value}
-use Rattle.model.specs.declared.verdict.Verdict.{Verdict}
-use Rattle.model.specs.declared.verdict.Verdict.TheVariants.{Passes, Broken}
+use Rattle.model.specs.declared.verdict.Breach.{Breach}
 
 -- the lowest broken axiom is named
 abbrev pub number_of : Axiom → ℕ
@@ -58,8 +57,8 @@ module _ {M : Type 0} (P : Program) (stored : (ℕ → M) → ℕ → M) (start 
   Names Value e f = (n : ℕ) × (s : Option ℕ) × (e ≡ rd n) × (f ≡ write_of s) × WrongRead n s
 
   -- a passing verdict says that all six hold; a broken one that every lower axiom holds, and names this one's events
-  abbrev pub Judged : Verdict → Type 0
-  Judged Passes = Meets P stored start o words
-  Judged (Broken a e f) =
-      ((b : Axiom) → number_of b < number_of a → Kept b)
-      × Names a (code_of P.size e) (code_if P f) × OfUnit P.size e × OfUnitIf P f
+  abbrev pub Judged : {T : Type 0} → Result T Breach → Type 0
+  Judged (Ok t) = Meets P stored start o words
+  Judged (Err b) =
+      ((a : Axiom) → number_of a < number_of b.axiom → Kept a)
+      × Names b.axiom (code_of P.size b.first) (code_if P b.second) × OfUnit P.size b.first × OfUnitIf P b.second

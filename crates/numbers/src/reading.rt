@@ -28,10 +28,9 @@ fn read_groups(bytes: &[u8], at: usize, left: u8, place: usize) -> Result<(u32, 
     requires { (0 < left) × (left ≤ 5) }
     ensures { MatchResult result (λ p. Stands left bytes.now at p.0 p.1) (λ e. ((e ≡ NumberEnds place) × Cut left bytes.now at) ⊎ ((e ≡ NumberMalformed place) × Wide left bytes.now at)) }
 {
-    if at >= bytes.len() {
+    let Some(&byte) = bytes.get(at) else {
         return Err(Fault::NumberEnds(place));
-    }
-    let byte = bytes[at];
+    };
     if left == 1 && byte > 15 {
         return Err(Fault::NumberMalformed(place));
     }

@@ -185,10 +185,6 @@ note_line p s x cs n a c e f =
     let q : p * 32 + n ≡ 32 * p + length s.lines = omega arith in
     ap (λ (i : ℕ). set cs i x.claim) q ∙ sym (ap (λ (y : Entry). note_at y x.claim (32 * p + length s.lines) cs) e)
 
--- nothing is kept of a table that is not yet read
-pub not_yet : (ts : List (List Item)) (rs : List Rows) (cs : List (Option ℕ)) (p : ℕ) → length ts ≡ p → Kept ts rs cs → get_or rs p empty ≡ empty
-not_yet ts rs cs p l k = k.tables p ∙ ap rows (get_or_past ts p [] (omega arith))
-
 blank_at : (k : ℕ) → get_or blank k empty ≡ empty
 blank_at zero = refl
 blank_at (suc zero) = refl

@@ -5,6 +5,7 @@ pub mod Pieces
 pub mod Parts
 pub mod EntryTests
 pub mod Runs
+pub mod Tested
 pub mod Keeping
 pub mod Fits
 pub mod Events

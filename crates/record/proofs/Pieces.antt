@@ -2,7 +2,7 @@
 use Rattle.std.proofs.Common.{◌≡◌, ℕ, ◌<◌, ◌≤◌, List, length, sym, refl, ap, ◌∙◌, inl, inr, le-leb}
 use borrow.Author.Tests.{lt-leb}
 use Rattle.faults.specs.declared.Fault.{Fault}
-use Rattle.faults.specs.declared.Fault.TheVariants.{RecordTooLong, MarkMissing, BytesLeft, SheetShort, OutputShort}
+use Rattle.faults.specs.declared.Fault.TheVariants.{BytesLeft, SheetShort, OutputShort}
 use Rattle.rules.specs.declared.rule.Rule.{Rule}
 use Rattle.tables.specs.Size.{places}
 use Rattle.record.specs.declared.entries.Item.{Item}
@@ -15,12 +15,6 @@ abbrev pub said_so : Rule → List (List Item) → List ℕ → Said
 said_so w ts o = record { rule = w; tables = ts; order = o }
 
 module _ (bytes : List ℕ) where
-  pub too_long : longest < length bytes → (record_form bytes).amiss 0 (RecordTooLong longest)
-  too_long h = inl (lt-leb (length bytes) longest h, refl)
-
-  pub no_mark : length bytes ≤ longest → (Marked bytes 0 → ⊥) → (record_form bytes).amiss 0 MarkMissing
-  no_mark h n = inr (tt, 0, (le-leb (length bytes) longest h, refl), inl (n, refl))
-
   module _ (short : length bytes ≤ longest) (m : Marked bytes 0) where
     pub no_rule : {e : Fault} → (ruled bytes).amiss 4 e → (record_form bytes).amiss 0 e
     no_rule a = inr (tt, 0, (le-leb (length bytes) longest short, refl), inr (tt, 4, (m, refl), inl a))

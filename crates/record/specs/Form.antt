@@ -14,6 +14,10 @@ pub record Form (X : Type 0) : Type 1 where
 abbrev pub Reads : {X : Type 0} → Form X → ℕ → Result (X × ℕ) Fault → Type 0
 Reads F at r = MatchResult r (λ p. F.is at p.0 p.1) (λ e. F.amiss at e)
 
+-- r is what stands at `at`, with `next` the place after it, or why nothing does
+abbrev pub Takes : {X : Type 0} → Form X → ℕ → ℕ → Result X Fault → Type 0
+Takes F at next r = MatchResult r (λ x. F.is at x next) (λ e. F.amiss at e)
+
 -- x, which takes no bytes
 abbrev pub say : {X : Type 0} → X → Form X
 say x = record { is = λ at y next. (y ≡ x) × (next ≡ at); amiss = λ at e. ⊥ }

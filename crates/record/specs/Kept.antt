@@ -1,5 +1,5 @@
 -- What a reader keeps of the tables that it has read: a draft's tables, and a claim for each place.
-use Rattle.std.specs.Prelude.{◌≡◌, ℕ, ◌≤◌, List, [], ◌∷◌, ◌++◌, length, take, None, Option, slice_index_or, slice_set}
+use Rattle.std.specs.Prelude.{◌≡◌, ℕ, List, [], ◌∷◌, ◌++◌, length, None, Option, slice_index_or, slice_set}
 use Rattle.tables.specs.declared.line.Entry.{Entry}
 use Rattle.tables.specs.declared.line.Entry.TheVariants.{Operation, Barrier}
 use Rattle.tables.specs.Size.{unit, number}
@@ -31,11 +31,10 @@ pub record Tabled (part : List ℕ) (base p : ℕ) (rs rs' : List Rows) (cs cs' 
   pub is : (table_form part base).is 0 items (length part)
   pub kept : (ts : List (List Item)) → length ts ≡ p → Kept ts rs cs → Kept (ts ++ items ∷ []) rs' cs'
 
--- bytes are a record of this rule and of so many events, whose codes stand at the front of os, and its tables are kept
-pub record Gathered (bytes : List ℕ) (rule : Rule) (count : ℕ) (rs : List Rows) (cs : List (Option ℕ)) (os : List ℕ) : Type 0 where
+-- bytes are a record of this rule and of this order, and its tables are kept
+pub record Gathered (bytes : List ℕ) (rule : Rule) (rs : List Rows) (cs : List (Option ℕ)) (order : List ℕ) : Type 0 where
   pub said : Said
   pub is : (record_form bytes).is 0 said (length bytes)
   pub rule_is : rule ≡ said.rule
   pub kept : Kept said.tables rs cs
-  pub few : count ≤ 256
-  pub order_is : take count os ≡ said.order
+  pub order_is : order ≡ said.order

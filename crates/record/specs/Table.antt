@@ -6,6 +6,8 @@ use Rattle.tables.specs.Lines.{reading}
 use Rattle.tables.specs.Rows.{Rows}
 use Rattle.record.specs.declared.entries.Item.{Item}
 use Rattle.record.specs.declared.entries.EntryCode.TheVariants.{Barrier}
+use Rattle.record.specs.declared.entries.Source.{Source}
+use Rattle.record.specs.declared.entries.Source.TheVariants.{Number, Copy}
 use Rattle.record.specs.Form.{Form, Test, say, ◌then◌, tested, repeated}
 use Rattle.record.specs.Section.{held}
 use Rattle.record.specs.Entries.{code_of, numbers_of, rows}
@@ -25,6 +27,11 @@ roles (suc (suc zero)) = cell ∷ copied ∷ []
 roles (suc (suc (suc zero))) = cell ∷ number ∷ claim ∷ []
 roles (suc (suc (suc (suc zero)))) = cell ∷ copied ∷ claim ∷ []
 roles (suc (suc (suc (suc (suc n))))) = []
+
+-- what the number stands for that says what a line writes
+abbrev pub role_of : Source → Role
+role_of Number = number
+role_of Copy = copied
 
 -- an entry of this code would be a line or a barrier too many
 abbrev pub full : Rows → ℕ → Bool

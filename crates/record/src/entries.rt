@@ -1,30 +1,31 @@
 // A table's entry in a section: its code, and the numbers that follow it.
-ghost use Rattle.std.specs.Prelude.{◌≡◌, ℕ, ◌+◌, ◌<◌, ◌≤◌, length, IfOk, MatchOption, MatchResult, slice_index_or};
+ghost use Rattle.std.specs.Prelude.{◌≡◌, MatchResult};
 ghost use Rattle.tables.specs.declared.line.Entry.TheVariants.{Operation};
-ghost use Rattle.tables.specs.Lines.{reading};
-ghost use Rattle.tables.specs.Rows.{empty};
-ghost use Rattle.tables.specs.Contents.{contents};
-ghost use Rattle.record.specs.declared.entries.EntryCode.TheVariants.{Barrier};
-ghost use Rattle.record.specs.Form.{Reads, tested};
-ghost use Rattle.record.specs.Entries.{code_of, entry_numbers, numbers_of};
-ghost use Rattle.record.specs.Table.{full, code_test, cell_test, copied_test, entry_form};
+ghost use Rattle.tables.specs.Rows.{rows_of};
+ghost use Rattle.record.specs.Form.{Takes, tested};
+ghost use Rattle.record.specs.Entries.{code_of, Decodes, source_of, operand_number, entry_numbers, numbers_of};
+ghost use Rattle.record.specs.Table.{role_of, full, code_test, cell_test, copied_test, test, entry_form};
 
 use crate::sections::Part;
 use faults::Fault;
-use numbers::read_number;
 use tables::line::{Access, Entry, Operand};
-use tables::tables::Tables;
+use tables::table::Table;
 use tables::{BARRIERS, LAST_CELL, LINES};
 
 /// The kinds of entry, as their codes tell them apart.
 #[derive(Clone, Copy)]
 pub enum EntryCode {
     Load,
-    StoreNumber,
-    StoreCopy,
-    SwapNumber,
-    SwapCopy,
+    Store(Source),
+    Swap(Source),
     Barrier,
+}
+
+/// Where the word that a line writes comes from: the number that the entry has, or the line that it names.
+#[derive(Clone, Copy)]
+pub enum Source {
+    Number,
+    Copy,
 }
 
 /// What an entry says: what it adds to its table, and the number that a line which reads claims to have read.
@@ -34,156 +35,123 @@ pub struct Item {
     pub claim: Option<u32>,
 }
 
-impl EntryCode {
-    // The kind that has this code, if there is one.
-    fn from_number(number: u32) -> Option<EntryCode>
-        ensures { MatchOption result (code_of Barrier < number) (λ k. code_of k ≡ number) }
-    {
+/// A number that is the code of no kind of entry.
+#[derive(Clone, Copy)]
+pub struct UnknownCode;
+
+impl TryFrom<u32> for EntryCode {
+    type Error = UnknownCode;
+
+    ghost try_from_gives = { Decodes };
+
+    fn try_from(number: u32) -> Result<Self, UnknownCode> {
         match number {
-            0 => Some(EntryCode::Load),
-            1 => Some(EntryCode::StoreNumber),
-            2 => Some(EntryCode::StoreCopy),
-            3 => Some(EntryCode::SwapNumber),
-            4 => Some(EntryCode::SwapCopy),
-            5 => Some(EntryCode::Barrier),
-            _ => None,
+            0 => Ok(EntryCode::Load),
+            1 => Ok(EntryCode::Store(Source::Number)),
+            2 => Ok(EntryCode::Store(Source::Copy)),
+            3 => Ok(EntryCode::Swap(Source::Number)),
+            4 => Ok(EntryCode::Swap(Source::Copy)),
+            5 => Ok(EntryCode::Barrier),
+            _ => Err(UnknownCode),
         }
     }
+}
 
+impl EntryCode {
     // Whether the table has no room for another entry of this kind.
-    fn is_full(self, tables: &Tables, table: usize) -> bool
-        ensures { result ≡ full (slice_index_or (contents tables.now) table empty) (code_of self) }
+    fn is_full(self, table: &Table) -> bool
+        ensures { result ≡ full (rows_of table.now) (code_of self) }
     {
         match self {
-            EntryCode::Load
-            | EntryCode::StoreNumber
-            | EntryCode::StoreCopy
-            | EntryCode::SwapNumber
-            | EntryCode::SwapCopy => tables.line_count(table) >= LINES,
-            EntryCode::Barrier => tables.barrier_count(table) >= BARRIERS,
+            EntryCode::Load | EntryCode::Store(_) | EntryCode::Swap(_) => {
+                table.line_count() >= LINES
+            }
+            EntryCode::Barrier => table.barrier_count() >= BARRIERS,
         }
     }
 }
 
-// Whether the table has a line of this number, counted from 1, and it reads.
-fn reads_line(tables: &Tables, table: usize, line: u32) -> bool
-    requires { table < 4 }
-    ensures { result ≡ reading (slice_index_or (contents tables.now) table empty).lines line }
-{
-    let line = line as usize;
-    if line == 0 || line > LINES {
-        return false;
+impl Part<'_> {
+    // An entry's code, for which the table has room.
+    fn code(self, at: &mut usize, table: &Table) -> Result<EntryCode, Fault>
+        ensures { MatchResult result
+            (λ k. (tested self.entry.bytes.now self.entry.start (code_test (rows_of table.now))).is at.old (code_of k) at.new)
+            (λ e. (tested self.entry.bytes.now self.entry.start (code_test (rows_of table.now))).amiss at.old e) }
+    {
+        let place = self.place(*at);
+        let number = self.number(at)?;
+        let Ok(code) = EntryCode::try_from(number) else {
+            return Err(Fault::EntryUnknown(place));
+        };
+        if code.is_full(table) {
+            return Err(Fault::TableFull(place));
+        }
+        Ok(code)
     }
-    tables.reads(table * LINES + line - 1)
-}
 
-// An entry's code, for which the table has room.
-fn read_code(
-    part: Part,
-    at: usize,
-    tables: &Tables,
-    table: usize,
-) -> Result<(EntryCode, usize), Fault>
-    ensures reads { MatchResult result
-        (λ p. (tested part.entry.bytes.now part.entry.start (code_test (slice_index_or (contents tables.now) table empty))).is at (code_of p.0) p.1)
-        (λ e. (tested part.entry.bytes.now part.entry.start (code_test (slice_index_or (contents tables.now) table empty))).amiss at e) }
-    ensures on { IfOk result (λ p. (at < p.1) × (p.1 ≤ length part.entry.bytes.now)) }
-{
-    let (number, next) = read_number(part.bytes, part.start, at)?;
-    let place = part.start.saturating_add(at);
-    let Some(code) = EntryCode::from_number(number) else {
-        return Err(Fault::EntryUnknown(place));
-    };
-    if code.is_full(tables, table) {
-        return Err(Fault::TableFull(place));
+    // A line's cell.
+    fn cell(self, at: &mut usize) -> Result<u8, Fault>
+        ensures { Takes (tested self.entry.bytes.now self.entry.start cell_test) at.old at.new result }
+    {
+        let place = self.place(*at);
+        let cell = self.number(at)?;
+        if cell > u32::from(LAST_CELL) {
+            return Err(Fault::CellBeyond(place));
+        }
+        Ok(cell as u8)
     }
-    Ok((code, next))
-}
 
-// A line's cell.
-fn read_cell(part: Part, at: usize) -> Result<(u8, usize), Fault>
-    ensures reads { Reads (tested part.entry.bytes.now part.entry.start cell_test) at result }
-    ensures on { IfOk result (λ p. (at < p.1) × (p.1 ≤ length part.entry.bytes.now)) }
-{
-    let (cell, next) = read_number(part.bytes, part.start, at)?;
-    if cell > u32::from(LAST_CELL) {
-        return Err(Fault::CellBeyond(part.start.saturating_add(at)));
+    // The number of an earlier line that reads.
+    fn copied(self, at: &mut usize, table: &Table) -> Result<u8, Fault>
+        ensures { Takes (tested self.entry.bytes.now self.entry.start (copied_test (rows_of table.now))) at.old at.new result }
+    {
+        let place = self.place(*at);
+        let line = self.number(at)?;
+        if !table.reads_line(line as usize) {
+            return Err(Fault::CopyAmiss(place));
+        }
+        Ok(line as u8)
     }
-    Ok((cell as u8, next))
-}
 
-// The number of an earlier line that reads.
-fn read_copied(part: Part, at: usize, tables: &Tables, table: usize) -> Result<(u8, usize), Fault>
-    requires { table < 4 }
-    ensures reads { Reads (tested part.entry.bytes.now part.entry.start (copied_test (slice_index_or (contents tables.now) table empty))) at result }
-    ensures on { IfOk result (λ p. (at < p.1) × (p.1 ≤ length part.entry.bytes.now)) }
-{
-    let (line, next) = read_number(part.bytes, part.start, at)?;
-    if !reads_line(tables, table, line) {
-        return Err(Fault::CopyAmiss(part.start.saturating_add(at)));
+    // What a line writes.
+    fn operand(self, at: &mut usize, source: Source, table: &Table) -> Result<Operand, Fault>
+        ensures { MatchResult result
+            (λ o. (source_of o ≡ source)
+            × (tested self.entry.bytes.now self.entry.start (test (rows_of table.now) (role_of source))).is at.old (operand_number o) at.new)
+            (λ e. (tested self.entry.bytes.now self.entry.start (test (rows_of table.now) (role_of source))).amiss at.old e) }
+    {
+        match source {
+            Source::Number => Ok(Operand::Written(self.number(at)?)),
+            Source::Copy => Ok(Operand::Copied(self.copied(at, table)?)),
+        }
     }
-    Ok((line as u8, next))
-}
 
-/// The entry at `at`, after those that the table has, and the place after it.
-pub(crate) fn read_item(
-    part: Part,
-    at: usize,
-    tables: &Tables,
-    table: usize,
-) -> Result<(Item, usize), Fault>
-    requires { table < 4 }
-    ensures reads { Reads (entry_form part.entry.bytes.now part.entry.start (slice_index_or (contents tables.now) table empty)) at result }
-    ensures on { IfOk result (λ p. (at < p.1) × (p.1 ≤ length part.entry.bytes.now)) }
-{
-    let (code, start) = read_code(part, at, tables, table)?;
-    match code {
-        EntryCode::Load => {
-            let (cell, after) = read_cell(part, start)?;
-            let (claim, next) = read_number(part.bytes, part.start, after)?;
-            Ok((line(Access::Load, cell, Some(claim)), next))
-        }
-        EntryCode::StoreNumber => {
-            let (cell, after) = read_cell(part, start)?;
-            let (number, next) = read_number(part.bytes, part.start, after)?;
-            Ok((
-                line(Access::Store(Operand::Written(number)), cell, None),
-                next,
-            ))
-        }
-        EntryCode::StoreCopy => {
-            let (cell, after) = read_cell(part, start)?;
-            let (copied, next) = read_copied(part, after, tables, table)?;
-            Ok((
-                line(Access::Store(Operand::Copied(copied)), cell, None),
-                next,
-            ))
-        }
-        EntryCode::SwapNumber => {
-            let (cell, after) = read_cell(part, start)?;
-            let (number, past) = read_number(part.bytes, part.start, after)?;
-            let (claim, next) = read_number(part.bytes, part.start, past)?;
-            Ok((
-                line(Access::Swap(Operand::Written(number)), cell, Some(claim)),
-                next,
-            ))
-        }
-        EntryCode::SwapCopy => {
-            let (cell, after) = read_cell(part, start)?;
-            let (copied, past) = read_copied(part, after, tables, table)?;
-            let (claim, next) = read_number(part.bytes, part.start, past)?;
-            Ok((
-                line(Access::Swap(Operand::Copied(copied)), cell, Some(claim)),
-                next,
-            ))
-        }
-        EntryCode::Barrier => Ok((
-            Item {
+    /// The entry at `at`, after those that the table has. `at` moves to the place after it.
+    pub(crate) fn item(self, at: &mut usize, table: &Table) -> Result<Item, Fault>
+        ensures { Takes (entry_form self.entry.bytes.now self.entry.start (rows_of table.now)) at.old at.new result }
+    {
+        match self.code(at, table)? {
+            EntryCode::Load => {
+                let cell = self.cell(at)?;
+                let claim = self.number(at)?;
+                Ok(line(Access::Load, cell, Some(claim)))
+            }
+            EntryCode::Store(source) => {
+                let cell = self.cell(at)?;
+                let operand = self.operand(at, source, table)?;
+                Ok(line(Access::Store(operand), cell, None))
+            }
+            EntryCode::Swap(source) => {
+                let cell = self.cell(at)?;
+                let operand = self.operand(at, source, table)?;
+                let claim = self.number(at)?;
+                Ok(line(Access::Swap(operand), cell, Some(claim)))
+            }
+            EntryCode::Barrier => Ok(Item {
                 entry: Entry::Barrier,
                 claim: None,
-            },
-            start,
-        )),
+            }),
+        }
     }
 }
 

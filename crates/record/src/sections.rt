@@ -1,5 +1,7 @@
 // Sections: a length, and then so many bytes of the record itself.
 ghost use Rattle.std.specs.Prelude.{◌≡◌, ℕ, ◌+◌, ◌<◌, ◌≤◌, length, MatchResult};
+ghost use Rattle.numbers.specs.Number.{Number};
+ghost use Rattle.numbers.specs.Amiss.{capped, NoNumber};
 ghost use Rattle.record.specs.Section.{SectionAt, NoSection};
 
 use faults::Fault;
@@ -10,6 +12,26 @@ use numbers::read_number;
 pub struct Part<'a> {
     pub bytes: &'a [u8],
     pub start: usize,
+}
+
+impl Part<'_> {
+    // The number at `at`, which moves to the place after it.
+    pub(crate) fn number(self, at: &mut usize) -> Result<u32, Fault>
+        ensures { MatchResult result
+            (λ v. Number self.entry.bytes.now at.old v at.new)
+            (λ e. NoNumber self.entry.bytes.now self.entry.start at.old e) }
+    {
+        let (number, next) = read_number(self.bytes, self.start, *at)?;
+        *at = next;
+        Ok(number)
+    }
+
+    // A place of the part as a fault tells it: by its place in the record.
+    pub(crate) fn place(self, at: usize) -> usize
+        ensures { result ≡ capped (self.entry.start + at) }
+    {
+        self.start.saturating_add(at)
+    }
 }
 
 /// The section whose length stands at `at`, and the place after it.

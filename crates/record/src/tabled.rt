@@ -1,80 +1,84 @@
 // The tables of a record.
-ghost use Rattle.std.specs.Prelude.{◌≡◌, ℕ, ◌+◌, ◌<◌, ◌≤◌, List, [], length, Some, None, MatchResult, slice_index_or};
+ghost use Rattle.std.specs.Prelude.{◌≡◌, ℕ, ◌+◌, ◌<◌, ◌≤◌, List, [], Some, None, MatchResult, slice_index_or};
 ghost use Rattle.tables.specs.Rows.{empty};
 ghost use Rattle.tables.specs.Contents.{contents, refused, with_added};
 ghost use Rattle.record.specs.declared.entries.Item.{Item};
 ghost use Rattle.record.specs.Table.{table_form, tables_form};
 ghost use Rattle.record.specs.Kept.{Kept, noted, Tabled};
 
-use crate::entries::{Item, read_item};
+use crate::entries::Item;
 use crate::sections::{Part, section};
 use faults::Fault;
 use tables::draft::Draft;
 use tables::line::Entry;
-use tables::{LINES, PROCESSORS};
+use tables::{LINES, PLACES, PROCESSORS};
 
-// Adds an entry to its table, and notes its claim at the place of its line.
-fn enter(
-    draft: &mut Draft,
-    table: usize,
-    item: Item,
-    claims: &mut [Option<u32>],
-) -> Result<(), Fault>
-    requires { (table < 4) × (length claims.old ≡ 128) }
-    ensures { MatchResult result
-        (λ _. (refused (contents draft.old.tables) (table + 1) item.entry ≡ None)
-        × (contents draft.new.tables ≡ with_added (contents draft.old.tables) (table + 1) item.entry)
-        × (claims.new ≡ noted table (slice_index_or (contents draft.old.tables) table empty) item claims.old))
-        (λ e. refused (contents draft.old.tables) (table + 1) item.entry ≡ Some e) }
-{
-    let place = table * LINES + draft.tables().line_count(table);
-    draft.add(table as u32 + 1, item.entry)?;
-    match item.entry {
-        Entry::Operation(_, _) => claims[place] = item.claim,
-        Entry::Barrier => {}
-    }
-    Ok(())
+/// The tables of a record, as far as they are read, and for each place the claim of its line.
+#[derive(Drop)]
+pub(crate) struct Reading {
+    pub draft: Draft,
+    pub claims: [Option<u32>; PLACES],
 }
 
-// Reads the entries of a table's section.
-fn read_table(
-    draft: &mut Draft,
-    table: usize,
-    part: Part,
-    claims: &mut [Option<u32>],
-) -> Result<(), Fault>
-    requires { (table < 4) × ((length claims.old ≡ 128) × (slice_index_or (contents draft.old.tables) table empty ≡ empty)) }
-    ensures { MatchResult result
-        (λ _. Tabled part.entry.bytes.now part.entry.start table
-        (contents draft.old.tables) (contents draft.new.tables) claims.old claims.new)
-        (λ e. (table_form part.entry.bytes.now part.entry.start).amiss 0 e) }
-{
-    let mut at = 0;
-    while at < part.bytes.len() {
-        let (item, next) = read_item(part, at, draft.tables(), table)?;
-        enter(draft, table, item, claims)?;
-        at = next;
+impl Reading {
+    // Nothing is read yet.
+    fn new(draft: Draft) -> Reading
+        ensures { Kept [] (contents result.draft.tables) result.claims }
+    {
+        Reading {
+            draft: draft.emptied(),
+            claims: [None; PLACES],
+        }
     }
-    Ok(())
+
+    // Adds an entry to its table, and notes its claim at the place of its line.
+    fn enter(&mut self, table: usize, item: Item) -> Result<(), Fault>
+        requires { table < 4 }
+        ensures { MatchResult result
+            (λ _. (refused (contents self.old.draft.tables) (table + 1) item.entry ≡ None)
+            × (contents self.new.draft.tables ≡ with_added (contents self.old.draft.tables) (table + 1) item.entry)
+            × (self.new.claims ≡ noted table (slice_index_or (contents self.old.draft.tables) table empty) item self.old.claims))
+            (λ e. refused (contents self.old.draft.tables) (table + 1) item.entry ≡ Some e) }
+    {
+        let place = table * LINES + self.draft.tables().line_count(table);
+        self.draft.add(table as u32 + 1, item.entry)?;
+        match item.entry {
+            Entry::Operation(_, _) => self.claims[place] = item.claim,
+            Entry::Barrier => {}
+        }
+        Ok(())
+    }
+
+    // Reads the entries of a table's section.
+    fn read_table(&mut self, table: usize, part: Part) -> Result<(), Fault>
+        requires { (table < 4) × (slice_index_or (contents self.old.draft.tables) table empty ≡ empty) }
+        ensures { MatchResult result
+            (λ _. Tabled part.entry.bytes.now part.entry.start table
+            (contents self.old.draft.tables) (contents self.new.draft.tables) self.old.claims self.new.claims)
+            (λ e. (table_form part.entry.bytes.now part.entry.start).amiss 0 e) }
+    {
+        let mut at = 0;
+        while at < part.bytes.len() {
+            let rows = self.draft.tables().table(table).unwrap();
+            let item = part.item(&mut at, rows)?;
+            self.enter(table, item)?;
+        }
+        Ok(())
+    }
 }
 
-// Reads the sections of all tables from `at` on, and gives the place after them.
-pub(crate) fn read_tables(
-    draft: &mut Draft,
-    claims: &mut [Option<u32>],
-    bytes: &[u8],
-    at: usize,
-) -> Result<usize, Fault>
-    requires { Kept [] (contents draft.old.tables) claims.old }
+// Reads the sections of all tables from `at` on into the room of the draft, and gives the place after them.
+pub(crate) fn read_tables(draft: Draft, bytes: &[u8], at: usize) -> Result<(Reading, usize), Fault>
     ensures { MatchResult result
-        (λ next. (ts : List (List Item)) × (tables_form bytes.now).is at ts next × Kept ts (contents draft.new.tables) claims.new)
+        (λ p. (ts : List (List Item)) × (tables_form bytes.now).is at ts p.1 × Kept ts (contents p.0.draft.tables) p.0.claims)
         (λ e. (tables_form bytes.now).amiss at e) }
 {
+    let mut reading = Reading::new(draft);
     let mut next = at;
     for table in 0..PROCESSORS {
         let (part, after) = section(bytes, next)?;
-        read_table(draft, table, part, claims)?;
+        reading.read_table(table, part)?;
         next = after;
     }
-    Ok(next)
+    Ok((reading, next))
 }

@@ -1,6 +1,7 @@
 // A whole record, read.
 ghost use Rattle.std.specs.Prelude.{◌≡◌, ℕ, ◌<◌, ◌≤◌, List, [], ◌++◌, length, take, drop, None, Decides, MatchResult, slice_index, slice_index_or};
 ghost use Rattle.tables.specs.Contents.{contents};
+ghost use Rattle.rules.specs.Sheets.{IsSameLoan};
 ghost use Rattle.record.specs.Form.{Reads};
 ghost use Rattle.record.specs.Record.{Marked, ruled, record_form, or_else, Read, NotRead};
 ghost use Rattle.record.specs.Kept.{Kept, Gathered};
@@ -8,7 +9,8 @@ ghost use Rattle.record.specs.Laws.{SaysOne};
 
 use crate::order::read_order;
 use crate::sections::section;
-use crate::tabled::read_tables;
+use crate::tabled::{Reading, read_tables};
+use arrayvec::ArrayVec;
 use faults::Fault;
 use numbers::read_number;
 use rules::rule::Rule;
@@ -41,22 +43,16 @@ fn read_rule(bytes: &[u8], at: usize) -> Result<(Rule, usize), Fault>
     ensures { Reads (ruled bytes.now) at result }
 {
     let (number, next) = read_number(bytes, 0, at)?;
-    let Some(rule) = Rule::from_number(number) else {
+    let Ok(rule) = Rule::try_from(number) else {
         return Err(Fault::RuleUnknown(at));
     };
     Ok((rule, next))
 }
 
-// Reads all that the bytes of a record say: claims and codes into these lists, which are the reader's own.
-fn read_bytes(
-    draft: &mut Draft,
-    claims: &mut [Option<u32>],
-    codes: &mut [u32],
-    bytes: &[u8],
-) -> Result<(Rule, usize), Fault>
-    requires { (Kept [] (contents draft.old.tables) claims.old) × (length codes.old ≡ 256) }
+// Reads all that the bytes of a record say: its rule, its tables into the room of the draft, and its order.
+fn read_bytes(draft: Draft, bytes: &[u8]) -> Result<(Rule, Reading, ArrayVec<u32, EVENTS>), Fault>
     ensures { MatchResult result
-        (λ p. Gathered bytes.now p.0 p.1 (contents draft.new.tables) claims.new codes.new)
+        (λ p. Gathered bytes.now p.0 (contents p.1.draft.tables) p.1.claims p.2.items)
         (λ e. (record_form bytes.now).amiss 0 e) }
 {
     if bytes.len() > LONGEST {
@@ -66,13 +62,13 @@ fn read_bytes(
         return Err(Fault::MarkMissing);
     }
     let (rule, begin) = read_rule(bytes, MARK.len())?;
-    let middle = read_tables(draft, claims, bytes, begin)?;
+    let (reading, middle) = read_tables(draft, bytes, begin)?;
     let (part, end) = section(bytes, middle)?;
-    let count = read_order(codes, part)?;
+    let codes = read_order(part)?;
     if end < bytes.len() {
         return Err(Fault::BytesLeft(end));
     }
-    Ok((rule, count))
+    Ok((rule, reading, codes))
 }
 
 // Writes each claim at its place of the sheet.
@@ -80,21 +76,21 @@ fn put_claims(sheet: &mut Sheet<u32>, claims: &[Option<u32>])
     requires { length claims.now ≤ length sheet.old.places.now }
     ensures size { length sheet.new.places.now ≡ length sheet.old.places.now }
     ensures words { (n : ℕ) → slice_index sheet.new.places.now n ≡ or_else (slice_index_or claims.now n None) (slice_index sheet.old.places.now n) }
-    ensures named { sheet.new.places.ghost_name ≡ sheet.old.places.ghost_name }
+    ensures named { IsSameLoan sheet.old sheet.new }
 {
-    for place in 0..claims.len() {
-        if let Some(claim) = claims[place] {
-            sheet.put(place, claim);
+    for (place, claim) in claims.iter().enumerate() {
+        if let Some(claim) = claim {
+            sheet.put(place, *claim);
         }
     }
 }
 
-// Writes the first `count` codes to the front of the output.
-fn put_codes(output: &mut [u32], codes: &[u32], count: usize)
-    requires { (count ≤ length codes.now) × (count ≤ length output.old) }
-    ensures { output.new ≡ take count codes.now ++ drop count output.old }
+// Writes the codes to the front of the output.
+fn put_codes(output: &mut [u32], codes: &[u32])
+    requires { length codes.now ≤ length output.old }
+    ensures { output.new ≡ codes.now ++ drop (length codes.now) output.old }
 {
-    output[0..count].copy_from_slice(&codes[0..count]);
+    output[0..codes.len()].copy_from_slice(codes);
 }
 
 /// Reads a record: its tables into the room of the draft, whatever that held, its claims onto the sheet and its order into the output.
@@ -110,19 +106,21 @@ pub fn read(
         c.rule (contents c.draft.tables) c.count)
         (λ e. NotRead bytes.now sheet.old.places.now sheet.new.places.now output.old output.new e) }
     ensures sole { SaysOne bytes.now (length sheet.old.places.now) (length output.old) }
-    ensures named { sheet.new.places.ghost_name ≡ sheet.old.places.ghost_name }
+    ensures named { IsSameLoan sheet.old sheet.new }
 {
     if sheet.size() < PLACES {
         return Err(Fault::SheetShort(sheet.size()));
     }
-    let mut draft = draft.emptied();
-    let mut claims = [None; PLACES];
-    let mut codes = [0; EVENTS];
-    let (rule, count) = read_bytes(&mut draft, &mut claims, &mut codes, bytes)?;
+    let (rule, reading, codes) = read_bytes(draft, bytes)?;
+    let count = codes.len();
     if output.len() < count {
         return Err(Fault::OutputShort(count));
     }
-    put_claims(sheet, &claims);
-    put_codes(output, &codes, count);
-    Ok(Contents { rule, draft, count })
+    put_claims(sheet, &reading.claims);
+    put_codes(output, &codes);
+    Ok(Contents {
+        rule,
+        draft: reading.draft,
+        count,
+    })
 }

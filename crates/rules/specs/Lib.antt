@@ -1,2 +1,4 @@
 pub mod Rules
+pub mod Sheets
+pub mod Text
 pub mod Waits

@@ -1,7 +1,6 @@
 // The waiting rules by their numbers.
-ghost use Rattle.std.specs.Prelude.{◌≡◌, Some, MatchOption, ◌≢◌};
-ghost use Rattle.rules.specs.declared.rule.Rule.{Rule};
-ghost use Rattle.rules.specs.Rules.{number_of};
+ghost use Rattle.std.specs.Prelude.{◌≡◌};
+ghost use Rattle.rules.specs.Rules.{number_of, NamesRule};
 
 use crate::wait::{Strong, TotalStoreOrder, WaitRule};
 
@@ -12,26 +11,31 @@ pub enum Rule {
     TotalStoreOrder,
 }
 
-impl Rule {
-    /// The rule that carries this number, if there is one.
-    pub fn from_number(number: u32) -> Option<Rule>
-        ensures found { MatchOption result ((w : Rule) → number_of w ≢ number) (λ w. number_of w ≡ number) }
-        ensures back { (w : Rule) → number ≡ number_of w → result ≡ Some w }
-    {
-        if number == Strong::NUMBER {
-            return Some(Rule::Strong);
-        }
-        if number == TotalStoreOrder::NUMBER {
-            return Some(Rule::TotalStoreOrder);
-        }
-        None
-    }
+/// A number that no rule carries.
+#[derive(Clone, Copy, PartialEq, Eq, Debug)]
+pub struct UnknownRule(pub u32);
 
-    /// The number that the rule carries.
-    pub fn number(self) -> u32
-        ensures { result ≡ number_of self }
-    {
-        match self {
+/// The rule that carries a number.
+impl TryFrom<u32> for Rule {
+    type Error = UnknownRule;
+
+    ghost try_from_gives = { NamesRule };
+
+    fn try_from(number: u32) -> Result<Rule, UnknownRule> {
+        match number {
+            Strong::NUMBER => Ok(Rule::Strong),
+            TotalStoreOrder::NUMBER => Ok(Rule::TotalStoreOrder),
+            _ => Err(UnknownRule(number)),
+        }
+    }
+}
+
+/// The number that a rule carries.
+impl From<Rule> for u32 {
+    ghost from_gives = { λ rule number. number ≡ number_of rule };
+
+    fn from(rule: Rule) -> u32 {
+        match rule {
             Rule::Strong => Strong::NUMBER,
             Rule::TotalStoreOrder => TotalStoreOrder::NUMBER,
         }

@@ -1,6 +1,7 @@
 // The answer sheet: a place for each line's word, over a slice that the caller lends.
-ghost use Rattle.std.specs.Prelude.{◌≡◌, ◌<◌, ◌≤◌, length, Some, MatchOption, nat_lt, slice_index_or, slice_set};
+ghost use Rattle.std.specs.Prelude.{◌≡◌, ◌<◌, ◌≤◌, length, Some, MatchOption, nat_lt, slice_get, slice_index_or, slice_set};
 ghost use Rattle.tables.specs.Lines.{nth};
+ghost use Rattle.rules.specs.Sheets.{IsSameLoan};
 
 /// Places for words of any kind, lent by the caller.
 #[derive(Drop)]
@@ -8,21 +9,26 @@ pub struct Sheet<'a, W> {
     places: &'a mut [W],
 }
 
-// The word at a place; nothing changes.
-fn read_place<W: Copy>(places: &mut [W], i: usize) -> W
-    requires { i < length places.old }
-    ensures value { (d : W) → result ≡ slice_index_or places.old i d }
+// The word at a place, if there is such a place; nothing changes. It takes the slice as it was lent, for writing: that is a rule
+// of the project.
+fn read_place<W: Copy>(places: &mut [W], i: usize) -> Option<W>
+    ensures value { result ≡ slice_get places.old i }
     ensures same { places.new ≡ places.old }
 {
-    places[i]
+    places.get(i).copied()
 }
 
-// Writes a word at a place, and nothing else.
-fn write_place<W: Copy>(places: &mut [W], i: usize, word: W)
-    requires { i < length places.old }
-    ensures { places.new ≡ slice_set places.old i word }
+// Writes a word at a place, and nothing else, and says whether there is such a place. By its index, since the contract of a
+// slice's `get_mut` does not say what the slice ends as.
+fn write_place<W: Copy>(places: &mut [W], i: usize, word: W) -> bool
+    ensures done { result ≡ nat_lt i (length places.old) }
+    ensures after { places.new ≡ slice_set places.old i word }
 {
+    if i >= places.len() {
+        return false;
+    }
     places[i] = word;
+    true
 }
 
 impl<'a, W: Copy> Sheet<'a, W> {
@@ -46,27 +52,19 @@ impl<'a, W: Copy> Sheet<'a, W> {
         ensures value { result ≡ nth self.old.places.now i }
         ensures cases { MatchOption result (length self.old.places.now ≤ i) (λ _. i < length self.old.places.now) }
         ensures inside { i < length self.old.places.now → (d : W) → result ≡ Some (slice_index_or self.old.places.now i d) }
-        ensures same { self.new.places.now ≡ self.old.places.now }
-        ensures named { self.new.places.ghost_name ≡ self.old.places.ghost_name }
+        ensures same { self.new ≡ self.old }
     {
-        if i >= self.size() {
-            return None;
-        }
-        Some(read_place(self.places, i))
+        read_place(self.places, i)
     }
 
     /// Writes a word at a place, counted from 0, and says whether there is such a place; where there is none, nothing changes.
     pub fn put(&mut self, i: usize, word: W) -> bool
         ensures done { result ≡ nat_lt i (length self.old.places.now) }
         ensures after { self.new.places.now ≡ slice_set self.old.places.now i word }
-        ensures past { length self.old.places.now ≤ i → self.new.places.now ≡ self.old.places.now }
-        ensures named { self.new.places.ghost_name ≡ self.old.places.ghost_name }
+        ensures past { length self.old.places.now ≤ i → self.new ≡ self.old }
+        ensures named { IsSameLoan self.old self.new }
     {
-        if i >= self.size() {
-            return false;
-        }
-        write_place(self.places, i, word);
-        true
+        write_place(self.places, i, word)
     }
 }
 

@@ -13,13 +13,9 @@ pub trait WaitRule {
     /// The number by which a record names the rule.
     const NUMBER: u32;
 
-    ghost numbered: { ℕ };
+    ghost NUMBER: { ℕ };
 
     ghost waits: { Waits };
-
-    /// The rule's number, for code that has the rule as a parameter.
-    fn shown_number() -> u32
-        ensures { result ≡ numbered };
 
     /// Whether the later line must wait for the earlier line's store.
     fn must_wait(&self, earlier: &Line, later: &Line) -> bool
@@ -35,15 +31,11 @@ pub struct Strong;
 impl WaitRule for Strong {
     const NUMBER: u32 = 1;
 
-    ghost numbered = { number_of Rule.Strong };
+    ghost NUMBER = { number_of Rule.Strong };
 
     ghost waits = { λ _ _. true };
 
     ghost ordered = { λ _ _ _ _ _. refl };
-
-    fn shown_number() -> u32 {
-        Self::NUMBER
-    }
 
     fn must_wait(&self, _earlier: &Line, _later: &Line) -> bool {
         true
@@ -57,15 +49,11 @@ pub struct TotalStoreOrder;
 impl WaitRule for TotalStoreOrder {
     const NUMBER: u32 = 2;
 
-    ghost numbered = { number_of Rule.TotalStoreOrder };
+    ghost NUMBER = { number_of Rule.TotalStoreOrder };
 
     ghost waits = { λ p q. writes q.kind || not (p.barrier == q.barrier) };
 
     ghost ordered = { λ p q _ later_writes _. ap (λ (b : Bool). b || not (p.barrier == q.barrier)) later_writes };
-
-    fn shown_number() -> u32 {
-        Self::NUMBER
-    }
 
     fn must_wait(&self, earlier: &Line, later: &Line) -> bool {
         later.access.kind().writes() || earlier.barrier != later.barrier

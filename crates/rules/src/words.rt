@@ -1,6 +1,9 @@
 // Kinds of word: what a word means, and when two words are the same.
-ghost use Rattle.std.specs.Prelude.{◌≡◌, ℕ, Decides};
+ghost use Rattle.std.specs.Prelude.{◌≡◌, ℕ, Some, Decides};
 ghost use Rattle.rules.specs.declared.words.Origin.{Origin};
+ghost use Rattle.rules.specs.Text.{origin_text};
+
+use std::fmt;
 
 /// A kind of word. Words are the same exactly when their meanings are equal.
 pub trait WordKind {
@@ -57,11 +60,23 @@ impl WordKind for NumberWords {
     }
 }
 
-/// Where a word comes from: a cell's start, or the line of a processor that wrote it.
+/// Where a word comes from: a cell's start, or the line that wrote it, by processor and line.
 #[derive(Clone, Copy, PartialEq, Eq, Debug)]
 pub enum Origin {
     Start(u8),
     Line(u8, u8),
+}
+
+/// The line, as `2.1`, or `start`.
+impl fmt::Display for Origin {
+    ghost output = { λ o. Some (origin_text o) };
+
+    fn fmt<W: fmt::Write>(&self, f: &mut fmt::Formatter<W>) -> fmt::Result {
+        match self {
+            Origin::Start(_) => f.write_str("start"),
+            Origin::Line(processor, line) => write!(f, "{processor}.{line}"),
+        }
+    }
 }
 
 /// Words that say where they come from; a copy keeps its origin.
@@ -88,10 +103,6 @@ impl WordKind for OriginWords {
     }
 
     fn same(&self, a: &Origin, b: &Origin) -> bool {
-        match (*a, *b) {
-            (Origin::Start(c), Origin::Start(d)) => c == d,
-            (Origin::Line(p, k), Origin::Line(q, l)) => p == q && k == l,
-            _ => false,
-        }
+        a == b
     }
 }

@@ -1,7 +1,7 @@
 -- Calls that are written one after another make up a schedule.
 use Rattle.std.proofs.Common.{◌≡◌, ℕ, zero, suc, ◌+◌, ◌-◌, ◌/◌, ◌%◌, ◌<◌, ◌≤◌, Bool, cond, List, [], ◌∷◌, ◌++◌, length, get_or, drop, set, sym, refl, ap, ◌∙◌, subst, inl, inr, append_assoc, append-nil, arith, length-append}
 use mathlib.Core.Path.{fun_ext}
-use Rattle.std.proofs.lemmas.List.{map-append, get_or-set_same, get_or-set_other, drop_more, drop_all, length_push, length-map, take-append-drop}
+use Rattle.std.proofs.lemmas.List.{map-append, get_or-set_same, get_or-set_other, drop_more, length_push, length-map, take-append-drop}
 use Rattle.std.proofs.lemmas.Bool.{cases_eq, eq-eqb, ne_eqb}
 use Rattle.std.proofs.lemmas.Bool.Decides.{nat_tests}
 use Rattle.numbers.specs.Put.{Put}
@@ -11,7 +11,7 @@ use Rattle.tables.proofs.Numbering.{number_table_row}
 use Rattle.model.specs.declared.call.Call.{Call}
 use Rattle.model.specs.declared.call.Call.TheVariants.{Issue}
 use Rattle.model.specs.Schedule.{schedule, call_code, fill, lacking, more, up_to, drain_of, drains}
-use Rattle.scheduling.specs.Calls.{issued_by, event_calls, calls_of, codes_of}
+use Rattle.scheduling.specs.Calls.{issued_by, event_calls, codes_of}
 
 pub more_self : (f : ℕ → ℕ) (p k : ℕ) → more f p k p ≡ f p + k
 more_self f p k = grind (arith, nat_tests)
@@ -74,14 +74,6 @@ drain_code n =
 pub issues_end : (k p : ℕ) (out out₁ : List ℕ) (at mid : ℕ) → Put (codes_of (fill k p)) out at mid out₁ → mid ≡ at + k
 issues_end k p out out₁ at mid a = let l = length-map (fill k p) (call_code unit) in let m = fill_length k p in omega (arith, a.ends)
 
--- at the start no line is issued
-pub none_issued : (q : ℕ) → issued_by (0 ∷ 0 ∷ 0 ∷ 0 ∷ []) q ≡ 0
-none_issued zero = refl
-none_issued (suc zero) = refl
-none_issued (suc (suc zero)) = refl
-none_issued (suc (suc (suc zero))) = refl
-none_issued (suc (suc (suc (suc q)))) = refl
-
 -- the calls for a write end with its drain, and for a read there is none
 module _ (f : ℕ → ℕ) (e : ℕ) where
   abbrev issues : List Call
@@ -131,18 +123,3 @@ module _ (f : ℕ → ℕ) (o : List ℕ) (i : ℕ) (l : i < length o) where
       ∙ (append_assoc done (event_calls f e) (schedule unit f' rest)
       ∙ (ap (λ (z : List Call). done ++ z) (append_assoc (fill (lacking unit f (e / 2)) (table unit (e / 2))) (drains unit (e / 2) (e % 2)) (schedule unit f' rest))
       ∙ ap (λ (z : List ℕ). done ++ schedule unit f z) (sym (drop_more o i 0 l))))
-
-  -- so there is room for them if there is for all
-  pub room_on :
-      (done all : List Call) (n : ℕ) → done ++ schedule unit f (drop i o) ≡ all → length all ≤ n → length done + length (event_calls f e) ≤ n
-  room_on done all n h b =
-      let f' = up_to unit f (e / 2) in
-      let s = ap length (scheduled_on f' done (λ _. refl) ∙ h) in
-      let a = length-append (done ++ event_calls f e) (schedule unit f' rest) in
-      let d = length-append done (event_calls f e) in
-      omega arith
-
--- once no event is left, all calls are made
-pub all_made :
-    (f : ℕ → ℕ) (o : List ℕ) (i : ℕ) (done : List Call) → length o ≤ i → done ++ schedule unit f (drop i o) ≡ calls_of o → done ≡ calls_of o
-all_made f o i done l h = sym (append-nil done) ∙ (ap (λ (z : List ℕ). done ++ schedule unit f z) (sym (drop_all i o l)) ∙ h)

@@ -7,9 +7,7 @@ use Rattle.tables.specs.Rows.{Rows}
 use Rattle.rules.specs.Waits.{Waits}
 use Rattle.model.specs.Program.{Program, Words}
 use Rattle.model.specs.Theorems.{AllAccepted, Completes}
-use Rattle.model.specs.declared.verdict.Verdict.TheVariants.{Broken}
-use Rattle.judging.specs.declared.passing.Outcome.{Outcome}
-use Rattle.judging.specs.declared.passing.Outcome.TheVariants.{Broken as Fails, Passed}
+use Rattle.model.specs.declared.verdict.Breach.{Breach}
 use Rattle.judging.specs.Case.{Case, Refused, Heard, MeetsSix, VerdictOn}
 use Rattle.scheduling.specs.Calls.{calls_of, codes_of, needed}
 
@@ -26,21 +24,20 @@ pub data Unscheduled {M : Type 0} (c : Case M) (size room : ℕ) (e : Fault) : T
   short : Heard c size → MeetsSix c → room < needed c.program → e ≡ OutputShort (needed c.program) → Unscheduled c size room e
 
 module _ {M : Type 0} (c : Case M) where
-  -- what holds of an outcome for a case that is not refused: a broken verdict leaves the output as it was
-  abbrev pub OutcomeOn : List ℕ → List ℕ → Outcome ℕ → Type 0
-  OutcomeOn out out' (Fails a e f) = VerdictOn c (Broken a e f) × (out' ≡ out)
-  OutcomeOn out out' (Passed n) = MeetsSix c × HoldsCalls c.program c.order out out' n
+  -- what holds of the verdict on a case that is not refused: a broken one leaves the output as it was
+  abbrev pub OutcomeOn : List ℕ → List ℕ → Result ℕ Breach → Type 0
+  OutcomeOn out out' v = VerdictOn c v × MatchResult v (λ n. HoldsCalls c.program c.order out out' n) (λ _. out' ≡ out)
 
   -- what is answered to the case, with a sheet of that many places and an output that had one content and has the other
-  abbrev pub Scheduled : ℕ → List ℕ → List ℕ → Result (Outcome ℕ) Fault → Type 0
+  abbrev pub Scheduled : ℕ → List ℕ → List ℕ → Result (Result ℕ Breach) Fault → Type 0
   Scheduled size out out' r =
       MatchResult r (λ x. Heard c size × OutcomeOn out out' x) (λ e. Unscheduled c size (length out) e × (out' ≡ out))
 
   -- a case that is not refused, and meets the axioms, has its schedule written, unless the output is too short
-  abbrev pub SchedulesAll : ℕ → ℕ → Result (Outcome ℕ) Fault → Type 0
+  abbrev pub SchedulesAll : ℕ → ℕ → Result (Result ℕ Breach) Fault → Type 0
   SchedulesAll size room r =
       Heard c size → MeetsSix c
-      → r ≡ cond (nat_lt room (needed c.program)) (Err (OutputShort (needed c.program))) (Ok (Passed (needed c.program)))
+      → r ≡ cond (nat_lt room (needed c.program)) (Err (OutputShort (needed c.program))) (Ok (Ok (needed c.program)))
 
 -- whatever a sheet holds, if it has its places: a new machine accepts all calls of the order's schedule, and is completed by
 -- them with the order and its words

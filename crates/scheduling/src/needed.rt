@@ -28,6 +28,7 @@ fn calls_at(tables: &Tables, place: usize) -> usize
 pub(crate) fn calls_needed(tables: &Tables) -> usize
     ensures { (w : Waits) → result ≡ needed (program unit w (contents tables.now)) }
 {
+    // A loop: that the total of a chain fits was not proved.
     let mut calls = 0;
     for place in 0..PLACES {
         calls += calls_at(tables, place);

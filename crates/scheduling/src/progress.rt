@@ -9,6 +9,7 @@ ghost use Rattle.scheduling.specs.Calls.{issued_by, codes_of, event_calls, calls
 use tables::{LINES, PROCESSORS};
 
 // How far the writing has come: how many lines of each table are issued, and how many calls are written.
+// The output stands beside it: a lent slice in a field would take one clause more in each method, that it stays the same slice.
 #[derive(Drop)]
 struct Progress {
     issued: [usize; PROCESSORS],
@@ -32,6 +33,7 @@ impl Progress {
         ensures written { Put (codes_of (fill (row + 1 - issued_by self.old.issued table) table)) output.old self.old.count self.new.count output.new }
         ensures issued { (q : ℕ) → issued_by self.new.issued q ≡ more (issued_by self.old.issued) table (row + 1 - issued_by self.old.issued table) q }
     {
+        // What this loop counts is kept for the events that follow.
         while self.issued[table] <= row {
             self.put(output, table as u32);
             self.issued[table] += 1;
@@ -61,8 +63,8 @@ pub(crate) fn write_calls(order: &[u32], output: &mut [u32]) -> usize
         issued: [0; PROCESSORS],
         count: 0,
     };
-    for i in 0..order.len() {
-        progress.make_calls(output, order[i] as usize);
+    for &event in order {
+        progress.make_calls(output, event as usize);
     }
     progress.count
 }

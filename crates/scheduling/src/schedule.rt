@@ -10,7 +10,6 @@ use crate::needed::calls_needed;
 use crate::progress::write_calls;
 use faults::Fault;
 use judging::judge::judge;
-use judging::passing::Outcome;
 use model::verdict::Verdict;
 use rules::sheet::Sheet;
 use rules::wait::WaitRule;
@@ -26,19 +25,19 @@ pub fn schedule<R: WaitRule, K: WordKind>(
     order: &[u32],
     sheet: &mut Sheet<K::Word>,
     output: &mut [u32],
-) -> Result<Outcome<usize>, Fault>
+) -> Result<Verdict<usize>, Fault>
     ensures answer { Scheduled (case R.WaitRule.waits K.WordKind.meaning K.WordKind.starts K.WordKind.writtens (contents tables.now) order.now sheet.old.places.now) (length sheet.old.places.now) output.old output.new result }
     ensures exactly { SchedulesAll (case R.WaitRule.waits K.WordKind.meaning K.WordKind.starts K.WordKind.writtens (contents tables.now) order.now sheet.old.places.now) (length sheet.old.places.now) (length output.old) result }
     ensures reached { IfPassed result (λ _. ReachedBySchedule R.WaitRule.waits (kind_of K.WordKind.starts K.WordKind.writtens) (contents tables.now) order.now (words_on K.WordKind.meaning K.WordKind.starts sheet.old.places.now)) }
     ensures same { sheet.new.places.now ≡ sheet.old.places.now }
     ensures named { sheet.new.places.ghost_name ≡ sheet.old.places.ghost_name }
 {
-    if let Verdict::Broken(axiom, first, second) = judge(tables, rule, kind, order, sheet)? {
-        return Ok(Outcome::Broken(axiom, first, second));
+    if let Err(breach) = judge(tables, rule, kind, order, sheet)? {
+        return Ok(Err(breach));
     }
     let needed = calls_needed(tables);
     if output.len() < needed {
         return Err(Fault::OutputShort(needed));
     }
-    Ok(Outcome::Passed(write_calls(order, output)))
+    Ok(Ok(write_calls(order, output)))
 }

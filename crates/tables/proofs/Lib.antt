@@ -1,5 +1,4 @@
 pub mod Pushes
-pub mod Changes
 pub mod Numbering
 pub mod Codes
 pub mod Goods

@@ -1,18 +1,19 @@
 -- What one line more keeps.
-use Rattle.std.proofs.Common.{◌≡◌, ℕ, zero, suc, ◌+◌, ◌-◌, ◌<◌, ◌≤◌, true, false, List, [], ◌∷◌, ◌++◌, length, get_or, Some, None, sym, refl, ap, ◌∙◌, inl, inr, arith}
+use Rattle.std.proofs.Common.{◌≡◌, ℕ, zero, suc, ◌-◌, ◌<◌, ◌≤◌, true, false, List, [], ◌∷◌, ◌++◌, length, get_or, Some, None, sym, refl, ap, ◌∙◌, inl, inr, arith}
 use Rattle.std.proofs.lemmas.List.{take-append-le, length_push, take_all}
 use Rattle.std.proofs.lemmas.Bool.{cases_lt}
 use Rattle.tables.specs.declared.line.Line.{Line}
 use Rattle.tables.specs.Size.{last_cell}
+use Rattle.tables.specs.View.{of_line}
 use Rattle.tables.specs.Lines.{nth, line_reads, reading, names, CellsFit, CopiesFit, BarriersWithin, barrier_at, BarriersRise}
 
 pub nth_inside : (ls : List Line) (k : ℕ) (l : Line) → nth ls k ≡ Some l → k < length ls
-nth_inside [] k l e = let z : ◌≡◌ {A = ℕ} 0 1 = cc in let y : ⊥ = omega arith in absurd y
+nth_inside [] k l e = absurd (cc)
 nth_inside (a ∷ ls) zero l e = omega arith
 nth_inside (a ∷ ls) (suc k) l e = let h = nth_inside ls k l e in omega arith
 
 pub nth_before : (ls : List Line) (x : Line) (k : ℕ) → k < length ls → nth (ls ++ x ∷ []) k ≡ nth ls k
-nth_before [] x k h = let y : ⊥ = omega arith in absurd y
+nth_before [] x k h = absurd (omega arith)
 nth_before (a ∷ ls) x zero h = refl
 nth_before (a ∷ ls) x (suc k) h = nth_before ls x k (omega arith)
 
@@ -46,11 +47,8 @@ module _ (ls : List Line) (x : Line) where
         let u : x.barrier ≡ l.barrier = ap (λ (a : Line). a.barrier) t in omega arith
   ]
 
-pub within_more : (ls : List Line) (n : ℕ) → BarriersWithin ls n → BarriersWithin ls (n + 1)
-within_more ls n f k l e = let h = f k l e in omega arith
-
 pub at_before : (ls : List Line) (x : Line) (k : ℕ) → k < length ls → barrier_at (ls ++ x ∷ []) k ≡ barrier_at ls k
-at_before [] x k h = let y : ⊥ = omega arith in absurd y
+at_before [] x k h = absurd (omega arith)
 at_before (a ∷ ls) x zero h = refl
 at_before (a ∷ ls) x (suc k) h = at_before ls x k (omega arith)
 
@@ -80,23 +78,24 @@ rising_push ls x f w j k o h =
 pub reading_past : (ls : List Line) (k : ℕ) → length ls < k → reading ls k ≡ false
 reading_past ls zero h = refl
 reading_past [] (suc k) h = refl
-reading_past (l ∷ ls) (suc zero) h = let y : ⊥ = omega arith in absurd y
+reading_past (l ∷ ls) (suc zero) h = absurd (omega arith)
 reading_past (l ∷ ls) (suc (suc k)) h = reading_past ls (suc k) (omega arith)
-
-reading_next : (ls : List Line) (k : ℕ) (d : Line) → k < length ls → reading ls (suc k) ≡ line_reads (get_or ls k d)
-reading_next [] k d h = let y : ⊥ = omega arith in absurd y
-reading_next (l ∷ ls) zero d h = refl
-reading_next (l ∷ ls) (suc k) d h = reading_next ls k d (omega arith)
-
-pub reading_at : (ls : List Line) (k : ℕ) (d : Line) → 0 < k → k ≤ length ls → reading ls k ≡ line_reads (get_or ls (k - 1) d)
-reading_at ls k d p h = let q : k ≡ suc (k - 1) = omega arith in ap (λ (m : ℕ). reading ls m) q ∙ reading_next ls (k - 1) d (omega arith)
 
 pub nth_past : {X : Type 0} (ls : List X) (k : ℕ) → length ls ≤ k → nth ls k ≡ None
 nth_past [] k h = refl
-nth_past (l ∷ ls) zero h = let y : ⊥ = omega arith in absurd y
+nth_past (l ∷ ls) zero h = absurd (omega arith)
 nth_past (l ∷ ls) (suc k) h = nth_past ls k (omega arith)
 
 pub nth_at : {X : Type 0} (ls : List X) (k : ℕ) (d : X) → k < length ls → nth ls k ≡ Some (get_or ls k d)
-nth_at [] k d h = let y : ⊥ = omega arith in absurd y
+nth_at [] k d h = absurd (omega arith)
 nth_at (l ∷ ls) zero d h = refl
 nth_at (l ∷ ls) (suc k) d h = nth_at ls k d (omega arith)
+
+reading_row : (ls : List Line) (j : ℕ) → reading ls (suc j) ≡ of_line false line_reads (nth ls j)
+reading_row [] j = refl
+reading_row (l ∷ ls) zero = refl
+reading_row (l ∷ ls) (suc j) = reading_row ls j
+
+-- whether the line of a number reads, by the line itself
+pub reading_line : (ls : List Line) (k : ℕ) → 0 < k → reading ls k ≡ of_line false line_reads (nth ls (k - 1))
+reading_line ls k p = let q : k ≡ suc (k - 1) = omega arith in ap (λ (m : ℕ). reading ls m) q ∙ reading_row ls (k - 1)

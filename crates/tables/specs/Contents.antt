@@ -1,5 +1,5 @@
 -- The contents of all tables, and what adding to one of them does.
-use Rattle.std.specs.Prelude.{ℕ, ◌-◌, cond, List, [], ◌∷◌, map, Some, vec_items, Option, nat_lt, slice_index_or, slice_set}
+use Rattle.std.specs.Prelude.{ℕ, ◌-◌, cond, List, [], ◌∷◌, map, Some, Option, nat_lt, slice_index_or, slice_set}
 use Rattle.faults.specs.declared.Fault.{Fault}
 use Rattle.faults.specs.declared.Fault.TheVariants.{ProcessorUnknown}
 use Rattle.tables.specs.declared.line.Entry.{Entry}
@@ -8,7 +8,7 @@ use Rattle.tables.specs.Size.{unit}
 use Rattle.tables.specs.Rows.{Rows, rows_of, empty, refusal, added}
 
 abbrev pub contents : Tables → List Rows
-contents t = map rows_of (vec_items t.rows)
+contents t = map rows_of t.rows
 
 abbrev pub blank : List Rows
 blank = empty ∷ empty ∷ empty ∷ empty ∷ []

@@ -1,8 +1,10 @@
 -- Events and their codes, over the size of the unit.
-use Rattle.std.specs.Prelude.{◌≡◌, ℕ, ◌+◌, ◌-◌, ◌*◌, ◌/◌, ◌%◌, ◌≤◌, cond, List, ◌++◌, Some, None, codes as text, decimal, Option, MatchOption, ◌==◌, nat_lt}
+use Rattle.std.specs.Prelude.{◌≡◌, ℕ, ◌+◌, ◌-◌, ◌*◌, ◌/◌, ◌%◌, ◌≤◌, cond, List, ◌++◌, Some, None, codes as text, decimal, Option, MatchOption, Result, ◌==◌, nat_lt}
+use Rattle.std.specs.Result.{result_ok}
 use Rattle.tables.specs.declared.event.Side.{Side}
 use Rattle.tables.specs.declared.event.Side.TheVariants.{Read, Write}
 use Rattle.tables.specs.declared.event.Event.{Event}
+use Rattle.tables.specs.declared.event.NoEvent.{NoEvent}
 use Rattle.tables.specs.Size.{Size, number, table, row, places}
 
 -- how many codes there are: two for each line that there may be
@@ -38,6 +40,16 @@ pub record OfUnit (z : Size) (e : Event) : Type 0 where
 -- what a code names: an event of the unit with this code, or nothing where the code is too high
 abbrev pub Named : Size → ℕ → Option Event → Type 0
 Named z c r = MatchOption r (codes z ≤ c) (λ e. OfUnit z e × (code_of z e ≡ c))
+
+-- the code of an event; that of an event of the unit names it
+pub record Coded (z : Size) (e : Event) (c : ℕ) : Type 0 where
+  pub value : c ≡ code_of z e
+  pub back : OfUnit z e → event_of z c ≡ Some e
+
+-- the event that a code names, or that it names none
+pub record Decoded (z : Size) (c : ℕ) (r : Result Event NoEvent) : Type 0 where
+  pub value : result_ok r ≡ event_of z c
+  pub back : Named z c (result_ok r)
 
 abbrev pub side_text : Side → List ℕ
 side_text Read = text "r"

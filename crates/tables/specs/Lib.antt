@@ -4,3 +4,4 @@ pub mod Rows
 pub mod Contents
 pub mod Events
 pub mod View
+pub mod Places

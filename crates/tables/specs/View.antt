@@ -37,24 +37,30 @@ is_write z ts e = e % 2 == 1 && writes_at z ts (e / 2)
 abbrev pub is_event : Size → List Rows → ℕ → Bool
 is_event z ts e = is_read z ts e || is_write z ts e
 
--- what a line writes; a load has no operand, and 0 stands for it, which nobody asks for
-abbrev pub operand_of : Access → Operand
-operand_of Load = Written 0
-operand_of (Store o) = o
-operand_of (Swap o) = o
+-- what an access writes; a load has no operand
+abbrev pub operand_of : Access → Option Operand
+operand_of Load = None
+operand_of (Store o) = Some o
+operand_of (Swap o) = Some o
+
+-- what the line of a number writes, if there is one and it writes
+abbrev pub operand_at : Size → List Rows → ℕ → Option Operand
+operand_at z ts m = of_line None (λ l. operand_of l.access) (line_at z ts m)
 
 -- the line whose word line m copies, if it copies one
-abbrev pub copied_by : Size → ℕ → Operand → Option ℕ
-copied_by z m (Written v) = None
-copied_by z m (Copied k) = Some (number z (table z m) (k - 1))
+abbrev pub copied_by : Size → ℕ → Option Operand → Option ℕ
+copied_by z m None = None
+copied_by z m (Some (Written v)) = None
+copied_by z m (Some (Copied k)) = Some (number z (table z m) (k - 1))
 
 abbrev pub copy_at : Size → List Rows → ℕ → Option ℕ
 copy_at z ts m = of_line None (λ l. copied_by z m (operand_of l.access)) (line_at z ts m)
 
--- the number that a line writes
-abbrev pub written_number : Operand → ℕ
-written_number (Written v) = v
-written_number (Copied k) = 0
+-- the number that a line writes; 0 stands for it where a line writes none, which nobody asks for
+abbrev pub written_number : Option Operand → ℕ
+written_number None = 0
+written_number (Some (Written v)) = v
+written_number (Some (Copied k)) = 0
 
 abbrev pub number_at : Size → List Rows → ℕ → ℕ
 number_at z ts m = of_line 0 (λ l. written_number (operand_of l.access)) (line_at z ts m)

@@ -1,9 +1,10 @@
 // Read and write events, and the codes that name them in an order.
-ghost use Rattle.std.specs.Prelude.{◌≡◌, Some};
+ghost use Rattle.std.specs.Prelude.{◌≡◌, Some, codes as text};
 ghost use Rattle.tables.specs.Size.{unit};
-ghost use Rattle.tables.specs.Events.{bit_of, side_of, code_of, event_of, OfUnit, Named, event_text};
+ghost use Rattle.tables.specs.Events.{bit_of, side_of, Coded, Decoded, side_text, event_text};
 
 use crate::EVENTS;
+use std::error::Error;
 use std::fmt;
 
 /// Which of a line's events.
@@ -21,14 +22,16 @@ pub struct Event {
     pub side: Side,
 }
 
+/// There is no event with that code.
+#[derive(Clone, Copy, PartialEq, Eq, Debug)]
+pub struct NoEvent;
+
+// By name and not by From: a code stands for an event, and its side is one part of that.
 impl Side {
     fn bit(self) -> u32
         ensures { result ≡ bit_of self }
     {
-        match self {
-            Side::Read => 0,
-            Side::Write => 1,
-        }
+        self as u32
     }
 
     fn of_code(code: u32) -> Side
@@ -42,30 +45,54 @@ impl Side {
     }
 }
 
-impl Event {
-    /// The event's code.
-    pub fn code(self) -> u32
-        ensures value { result ≡ code_of unit self }
-        ensures back { OfUnit unit self → event_of unit result ≡ Some self }
-    {
-        let table = self.processor.saturating_sub(1) as u32;
-        let row = self.line.saturating_sub(1) as u32;
-        (table * 32 + row) * 2 + self.side.bit()
-    }
+/// The event's code.
+impl From<Event> for u32 {
+    ghost from_gives = { Coded unit };
 
-    /// The event with this code, if there is one.
-    pub fn from_code(code: u32) -> Option<Event>
-        ensures value { result ≡ event_of unit code }
-        ensures back { Named unit code result }
-    {
+    fn from(event: Event) -> u32 {
+        let table = u32::from(event.processor.saturating_sub(1));
+        let row = u32::from(event.line.saturating_sub(1));
+        (table * 32 + row) * 2 + event.side.bit()
+    }
+}
+
+/// The event with this code, if there is one.
+impl TryFrom<u32> for Event {
+    type Error = NoEvent;
+
+    ghost try_from_gives = { Decoded unit };
+
+    fn try_from(code: u32) -> Result<Event, NoEvent> {
         if code as usize >= EVENTS {
-            return None;
+            return Err(NoEvent);
         }
         let place = code / 2;
-        Some(Event {
+        Ok(Event {
             processor: (place / 32 + 1) as u8,
             line: (place % 32 + 1) as u8,
             side: Side::of_code(code),
+        })
+    }
+}
+
+impl fmt::Display for NoEvent {
+    ghost output = { λ _. Some (text "no event has this code") };
+
+    fn fmt<W: fmt::Write>(&self, f: &mut fmt::Formatter<W>) -> fmt::Result {
+        f.write_str("no event has this code")
+    }
+}
+
+impl Error for NoEvent {}
+
+/// A letter for the side: `r` or `w`.
+impl fmt::Display for Side {
+    ghost output = { λ s. Some (side_text s) };
+
+    fn fmt<W: fmt::Write>(&self, f: &mut fmt::Formatter<W>) -> fmt::Result {
+        f.write_str(match self {
+            Side::Read => "r",
+            Side::Write => "w",
         })
     }
 }
@@ -75,12 +102,6 @@ impl fmt::Display for Event {
     ghost output = { λ e. Some (event_text e) };
 
     fn fmt<W: fmt::Write>(&self, f: &mut fmt::Formatter<W>) -> fmt::Result {
-        let processor = self.processor;
-        let line = self.line;
-        let side = match self.side {
-            Side::Read => "r",
-            Side::Write => "w",
-        };
-        write!(f, "{processor}.{line}{side}")
+        write!(f, "{}.{}{}", self.processor, self.line, self.side)
     }
 }

@@ -1,6 +1,7 @@
 // A line of a table, and what may be added to a table.
 ghost use Rattle.std.specs.Prelude.{◌≡◌};
 ghost use Rattle.tables.specs.Lines.{kind_of, reads, writes};
+ghost use Rattle.tables.specs.View.{operand_of};
 
 /// What a store or a swap writes: a number, or a copy of what an earlier line of its table read (by number, from 1).
 #[derive(Clone, Copy, PartialEq, Eq, Debug)]
@@ -51,6 +52,16 @@ impl Access {
             Access::Swap(_) => Kind::Swap,
         }
     }
+
+    /// What it writes; a load writes nothing.
+    pub fn operand(self) -> Option<Operand>
+        ensures { result ≡ operand_of self }
+    {
+        match self {
+            Access::Load => None,
+            Access::Store(operand) | Access::Swap(operand) => Some(operand),
+        }
+    }
 }
 
 impl Kind {
@@ -58,19 +69,13 @@ impl Kind {
     pub fn reads(self) -> bool
         ensures { result ≡ reads self }
     {
-        match self {
-            Kind::Load | Kind::Swap => true,
-            Kind::Store => false,
-        }
+        matches!(self, Kind::Load | Kind::Swap)
     }
 
     /// Whether such a line writes its cell.
     pub fn writes(self) -> bool
         ensures { result ≡ writes self }
     {
-        match self {
-            Kind::Load => false,
-            Kind::Store | Kind::Swap => true,
-        }
+        matches!(self, Kind::Store | Kind::Swap)
     }
 }

@@ -5,6 +5,7 @@ ghost use Rattle.tables.specs.Lines.{CellsFit, CopiesFit, BarriersWithin, Barrie
 use super::line::Line;
 
 pub mod adds;
+pub mod looks;
 
 /// The lines of one processor, and its barriers, those after the last line included.
 #[derive(Drop)]

@@ -1,13 +1,15 @@
 // The tables of all processors.
-ghost use Rattle.std.specs.Prelude.{◌≡◌, vec_items, vec_len};
+ghost use Rattle.std.specs.Prelude.{◌≡◌, length};
 
 use super::table::Table;
+use crate::PROCESSORS;
 
 pub mod looks;
 
 /// The tables of all processors.
 #[derive(Drop)]
 pub struct Tables {
-    rows: Vec<Table>,
-    ghost four: { vec_len rows ≡ 4 },
+    rows: [Table; PROCESSORS],
+    // Beside the type: a proof about tables as a value is not told the length of an array in them.
+    ghost four: { length rows ≡ 4 },
 }

@@ -5,7 +5,7 @@
 mod tests {
     use faults::Fault;
     use judging::judge::judge;
-    use judging::passing::{Outcome, Trace};
+    use judging::passing::Trace;
     use judging::trace::trace;
     use machine::play::play;
     use model::call::Call;
@@ -40,7 +40,8 @@ mod tests {
     // The verdict or the refusal, as text.
     fn told(heap: Global, answer: Result<Verdict, Fault>) -> Result<String, Fail> {
         match answer {
-            Ok(verdict) => Ok(verdict.to_string(heap)?),
+            Ok(Ok(())) => Ok("passes".to_string(heap)?),
+            Ok(Err(breach)) => Ok(breach.to_string(heap)?),
             Err(fault) => Ok(fault.to_string(heap)?),
         }
     }
@@ -116,12 +117,9 @@ mod tests {
         Ok(())
     }
 
-    // The number of the refusal, and 0 where there is none.
-    fn refusal(answer: Result<Outcome<Trace>, Fault>) -> u32 {
-        match answer {
-            Ok(_) => 0,
-            Err(fault) => fault.number(),
-        }
+    // The number of the refusal, if there is one.
+    fn refusal(answer: Result<Verdict<Trace>, Fault>) -> Option<u32> {
+        answer.err().map(Fault::number)
     }
 
     #[test]
@@ -133,23 +131,23 @@ mod tests {
         let rule = TotalStoreOrder;
         assert_eq!(rt;
             refusal(trace(tables, &rule, &NumberWords, &LOADS_FIRST, &mut sheet, 1, 2)),
-            0
+            None
         );
         assert_eq!(rt;
             refusal(trace(tables, &rule, &NumberWords, &LOADS_FIRST, &mut sheet, 5, 2)),
-            12
+            Some(12)
         );
         assert_eq!(rt;
             refusal(trace(tables, &rule, &NumberWords, &LOADS_FIRST, &mut sheet, 1, 3)),
-            13
+            Some(13)
         );
         assert_eq!(rt;
             refusal(trace(tables, &rule, &NumberWords, &LOADS_FIRST, &mut sheet, 1, 1)),
-            15
+            Some(15)
         );
         assert_eq!(rt;
             refusal(trace(tables, &rule, &NumberWords, &[2, 7], &mut sheet, 1, 2)),
-            17
+            Some(17)
         );
         Ok(())
     }
@@ -179,7 +177,7 @@ mod tests {
             &mut sheet,
             &mut codes,
         )?;
-        assert!(rt; matches!(made, Outcome::Passed(6)));
+        assert!(rt; made == Ok(6));
         let calls = [
             call(codes[0]),
             call(codes[1]),

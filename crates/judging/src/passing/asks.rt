@@ -7,12 +7,12 @@ ghost use Rattle.rules.specs.Waits.{Waits};
 ghost use Rattle.model.specs.Program.{program};
 ghost use Rattle.model.specs.Trace.{ReadTrace};
 ghost use Rattle.judging.specs.Case.{case, Answered, PassesAll};
-ghost use Rattle.judging.specs.Outcomes.{verdicts, IfPassed, rows_of, order_of, ReadsFrom};
+ghost use Rattle.judging.specs.Outcomes.{IfPassed, rows_of, order_of, ReadsFrom};
 
-use super::{Outcome, Passing, Trace};
+use super::{Passing, Trace};
+use crate::complete::Complete;
 use crate::judge::judge;
 use crate::naming::{event_if, write_of};
-use crate::sources::source;
 use crate::standing::Standing;
 use crate::trace::trace_read;
 use faults::Fault;
@@ -30,19 +30,21 @@ pub fn pass<'a, R: WaitRule, K: WordKind>(
     kind: &K,
     order: &'a [u32],
     sheet: &mut Sheet<K::Word>,
-) -> Result<Outcome<Passing<'a>>, Fault>
-    ensures answer { Answered (case R.WaitRule.waits K.WordKind.meaning K.WordKind.starts K.WordKind.writtens (contents tables.now) order.now sheet.old.places.now) (length sheet.old.places.now) (verdicts result) }
-    ensures exactly { PassesAll (case R.WaitRule.waits K.WordKind.meaning K.WordKind.starts K.WordKind.writtens (contents tables.now) order.now sheet.old.places.now) (length sheet.old.places.now) (verdicts result) }
+) -> Result<Verdict<Passing<'a>>, Fault>
+    ensures answer { Answered (case R.WaitRule.waits K.WordKind.meaning K.WordKind.starts K.WordKind.writtens (contents tables.now) order.now sheet.old.places.now) (length sheet.old.places.now) result }
+    ensures exactly { PassesAll (case R.WaitRule.waits K.WordKind.meaning K.WordKind.starts K.WordKind.writtens (contents tables.now) order.now sheet.old.places.now) (length sheet.old.places.now) result }
     ensures passed { IfPassed result (λ p. (rows_of p ≡ contents tables.now) × (order_of p ≡ order.now)) }
     ensures same { sheet.new.places.now ≡ sheet.old.places.now }
     ensures named { sheet.new.places.ghost_name ≡ sheet.old.places.ghost_name }
 {
+    // No `map`: its closure would have to require all that a passing order keeps.
     match judge(tables, rule, kind, order, sheet)? {
-        Verdict::Broken(axiom, first, second) => Ok(Outcome::Broken(axiom, first, second)),
-        Verdict::Passes => Ok(Outcome::Passed(Passing {
-            tables,
-            standing: Standing::of(order),
+        Ok(()) => Ok(Ok(Passing {
+            complete: Complete {
+                standing: Standing::of(tables, order),
+            },
         })),
+        Err(breach) => Ok(Err(breach)),
     }
 }
 
@@ -52,7 +54,7 @@ impl<'a> Passing<'a> {
         requires { reads_at unit (rows_of self.now) n ≡ true }
         ensures { (w : Waits) → ReadsFrom (program unit w (rows_of self.now)) (order_of self.now) n result }
     {
-        event_if(write_of(source(self.tables, &self.standing, n)))
+        event_if(write_of(self.complete.source(n)))
     }
 
     /// The write that the read of the line at this place should have, or none for the start word; nothing if it reads nothing.
@@ -61,7 +63,7 @@ impl<'a> Passing<'a> {
             (λ s. (reads_at unit (rows_of self.now) place ≡ true)
             × ((w : Waits) → ReadsFrom (program unit w (rows_of self.now)) (order_of self.now) place s)) }
     {
-        if !self.tables.reads(place) {
+        if !self.complete.standing.tables.reads(place) {
             return None;
         }
         Some(self.source_of(place))
@@ -73,7 +75,7 @@ impl<'a> Passing<'a> {
             (λ t. (reads_at unit (rows_of self.now) place ≡ true)
             × ((w : Waits) → ReadTrace (program unit w (rows_of self.now)) (copy_at unit (rows_of self.now)) (order_of self.now) place t.end t.reads)) }
     {
-        if !self.tables.reads(place) {
+        if !self.complete.standing.tables.reads(place) {
             return None;
         }
         Some(trace_read(self, place))

@@ -1,5 +1,5 @@
 // Looking at what a finished machine leaves.
-ghost use Rattle.std.specs.Prelude.{◌≡◌};
+ghost use Rattle.std.specs.Prelude.{◌≡◌, ◌≤◌, length};
 ghost use Rattle.tables.specs.Size.{unit};
 ghost use Rattle.tables.specs.Contents.{contents};
 ghost use Rattle.tables.specs.View.{Good};
@@ -9,11 +9,12 @@ use super::Ended;
 use tables::tables::Tables;
 
 impl Ended {
-    /// The codes of the order, first to last.
+    /// The codes of the order, first to last; there are at most 256.
     pub fn order(&self) -> &[u32]
-        ensures { result.now ≡ order_of self.now }
+        ensures value { result.now ≡ order_of self.now }
+        ensures fits { length result.now ≤ 256 }
     {
-        &self.order[0..self.len]
+        self.order.as_slice()
     }
 
     /// The issued lines, which are the tables of the order.

@@ -9,7 +9,8 @@ use crate::spots::place_of;
 use faults::Fault;
 use rules::wait::WaitRule;
 use tables::line::Line;
-use tables::{LINES, PLACES, PROCESSORS};
+use tables::tables::Tables;
+use tables::{LINES, PLACES};
 
 impl Machine {
     // The line that an issue takes, or why it is refused.
@@ -23,13 +24,10 @@ impl Machine {
             (λ t. Issuable R.WaitRule.waits self.now room processor t.0 t.1)
             (λ e. issue_refusal (program_of R.WaitRule.waits self.now) (state_of self.now) room processor ≡ Some e) }
     {
-        if processor < 1 || processor as usize > PROCESSORS {
-            return Err(Fault::ProcessorUnknown);
-        }
+        let table = Tables::table_of(processor)?;
         if room < PLACES {
             return Err(Fault::SheetShort(room));
         }
-        let table = processor as usize - 1;
         let row = self.inner.issued[table];
         if row >= LINES {
             return Err(Fault::NoLineLeft(processor as usize));
@@ -49,7 +47,7 @@ impl Machine {
             return Ok((n, line));
         }
         match self.inner.half {
-            Some(swap) => Err(Fault::SwapHalfDone(swap.code() as usize)),
+            Some(swap) => Err(Fault::SwapHalfDone(u32::from(swap) as usize)),
             None => Ok((n, line)),
         }
     }
@@ -65,16 +63,7 @@ impl Machine {
             (λ n. Drainable R.WaitRule.waits self.now processor line n)
             (λ e. drain_refusal (program_of R.WaitRule.waits self.now) (state_of self.now) processor line ≡ Some e) }
     {
-        if processor < 1 || processor as usize > PROCESSORS {
-            return Err(Fault::ProcessorUnknown);
-        }
-        if line < 1 || line as usize > LINES {
-            return Err(Fault::LineUnknown(line as usize));
-        }
-        let n = LINES * (processor as usize - 1) + (line as usize - 1);
-        let Some(_) = self.inner.tables.line_at(n) else {
-            return Err(Fault::LineUnknown(line as usize));
-        };
+        let n = self.inner.tables.place_of(processor, line)?;
         if !self.holds(n) {
             return Err(Fault::NotHeld(line as usize));
         }
@@ -83,7 +72,7 @@ impl Machine {
         }
         if let Some(swap) = self.inner.half {
             if place_of(swap) != n {
-                return Err(Fault::SwapHalfDone(swap.code() as usize));
+                return Err(Fault::SwapHalfDone(u32::from(swap) as usize));
             }
         }
         Ok(n)

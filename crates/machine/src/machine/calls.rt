@@ -1,5 +1,7 @@
 // The calls that a machine takes while it runs.
 ghost use Rattle.std.specs.Prelude.{◌≡◌, map, length, Some, MatchResult};
+ghost use Rattle.rules.specs.Sheets.{IsSameLoan};
+ghost use Rattle.model.specs.Program.{words_of};
 ghost use Rattle.model.specs.Machine.{issue_refusal, drain_refusal};
 ghost use Rattle.machine.specs.Machines.{state_of, lines_of, program_of};
 ghost use Rattle.machine.specs.Calls.{Issued, Drained};
@@ -10,6 +12,7 @@ use rules::sheet::Sheet;
 use rules::wait::WaitRule;
 use rules::words::WordKind;
 
+// Rule, kind and sheet come one by one: the caller keeps them, may change the rule between calls, and drains with the rule alone.
 impl Machine {
     /// Takes the next line of a processor: a load's word goes on the sheet and its read joins the order, a store's write
     /// becomes held, and a swap does both. Or refuses, and leaves machine and sheet as they were.
@@ -21,11 +24,11 @@ impl Machine {
         processor: u32,
     ) -> Result<(), Fault>
         ensures answer { MatchResult result
-            (λ _. Issued R.WaitRule.waits (record { start = K.WordKind.starts; written = K.WordKind.writtens }) self.old (map K.WordKind.meaning sheet.old.places.now) (length sheet.old.places.now) processor self.new (map K.WordKind.meaning sheet.new.places.now))
+            (λ _. Issued R.WaitRule.waits (words_of K.WordKind) self.old (map K.WordKind.meaning sheet.old.places.now) (length sheet.old.places.now) processor self.new (map K.WordKind.meaning sheet.new.places.now))
             (λ e. (issue_refusal (program_of R.WaitRule.waits self.old) (state_of self.old) (length sheet.old.places.now) processor ≡ Some e)
             × (self.new ≡ self.old) × (sheet.new.places.now ≡ sheet.old.places.now)) }
         ensures tables { lines_of self.new ≡ lines_of self.old }
-        ensures named { sheet.new.places.ghost_name ≡ sheet.old.places.ghost_name }
+        ensures named { IsSameLoan sheet.old sheet.new }
     {
         let (n, line) = self.may_issue(rule, sheet.size(), processor)?;
         self.put_word(kind, sheet, n, line);
@@ -41,8 +44,7 @@ impl Machine {
         ensures tables { lines_of self.new ≡ lines_of self.old }
     {
         let n = self.may_drain(rule, processor, line)?;
-        let cell = self.inner.tables.cell(n);
-        self.put_drain(n, cell);
+        self.put_drain(n);
         Ok(())
     }
 }

@@ -1,9 +1,9 @@
 // Finishing a machine.
-ghost use Rattle.std.specs.Prelude.{◌≡◌, ◌<◌, true, false, slice_index};
+ghost use Rattle.std.specs.Prelude.{◌≡◌, slice_index};
 ghost use Rattle.tables.specs.Size.{unit};
 ghost use Rattle.tables.specs.Contents.{contents};
 ghost use Rattle.tables.specs.View.{cell_at};
-ghost use Rattle.model.specs.Machine.{after_drain, drain_half, sweep, finish, cut};
+ghost use Rattle.model.specs.Machine.{drain_half, sweep, finish, cut};
 ghost use Rattle.machine.specs.Machines.{state_of, lines_of};
 ghost use Rattle.machine.specs.Endings.{order_of};
 
@@ -18,8 +18,8 @@ use tables::{PLACES, PROCESSORS};
 fn cut_tables(mut tables: Tables, issued: [usize; PROCESSORS]) -> Tables
     ensures { contents result ≡ cut (λ q. slice_index issued q) (contents tables) }
 {
-    for table in 0..PROCESSORS {
-        tables.shorten(table, issued[table]);
+    for (table, count) in issued.iter().enumerate() {
+        tables.shorten(table, *count);
     }
     tables
 }
@@ -31,22 +31,7 @@ impl Machine {
         ensures tables { lines_of self.new ≡ lines_of self.old }
     {
         if let Some(swap) = self.inner.half {
-            let n = place_of(swap);
-            let cell = self.inner.tables.cell(n);
-            self.put_drain(n, cell);
-        }
-    }
-
-    // Drains the write of a line if it is held.
-    fn drain_line(&mut self, n: usize)
-        requires { n < 128 }
-        ensures held { (state_of self.old).held n ≡ true → state_of self.new ≡ after_drain (state_of self.old) n (cell_at unit (lines_of self.old) n) }
-        ensures free { (state_of self.old).held n ≡ false → state_of self.new ≡ state_of self.old }
-        ensures tables { lines_of self.new ≡ lines_of self.old }
-    {
-        if self.holds(n) {
-            let cell = self.inner.tables.cell(n);
-            self.put_drain(n, cell);
+            self.put_drain(place_of(swap));
         }
     }
 
@@ -56,7 +41,9 @@ impl Machine {
         ensures tables { lines_of self.new ≡ lines_of self.old }
     {
         for n in 0..PLACES {
-            self.drain_line(n);
+            if self.holds(n) {
+                self.put_drain(n);
+            }
         }
     }
 
@@ -71,14 +58,11 @@ impl Machine {
         let Machine { inner } = self;
         let Inner {
             tables,
-            marks: _,
             issued,
-            last: _,
-            half: _,
             order,
-            len,
+            ..
         } = inner;
         let tables = cut_tables(tables, issued);
-        Ended { order, len, tables }
+        Ended { order, tables }
     }
 }

@@ -7,8 +7,9 @@ ghost use Rattle.machine.specs.Machines.{state_of, lines_of};
 use super::Machine;
 use crate::inner::{CELLS, Inner};
 use crate::mark::Mark;
+use arrayvec::ArrayVec;
 use tables::draft::Draft;
-use tables::{EVENTS, PLACES, PROCESSORS};
+use tables::{PLACES, PROCESSORS};
 
 impl Machine {
     /// Closes a draft, which is used up: a machine with its tables, on which nothing has run.
@@ -22,8 +23,7 @@ impl Machine {
             issued: [0; PROCESSORS],
             last: [None; CELLS],
             half: None,
-            order: [0; EVENTS],
-            len: 0,
+            order: ArrayVec::new(),
         };
         Machine { inner }
     }

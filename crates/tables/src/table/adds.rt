@@ -1,7 +1,7 @@
-// Adding to a table, and looking at its lines.
-ghost use Rattle.std.specs.Prelude.{◌≡◌, length, take, IfOk, Some, None, MatchResult};
+// Making a table, and adding to it.
+ghost use Rattle.std.specs.Prelude.{◌≡◌, take, IfOk, Some, None, MatchResult};
 ghost use Rattle.tables.specs.declared.line.Entry.TheVariants.{Operation, Barrier};
-ghost use Rattle.tables.specs.Lines.{names, reading, nth};
+ghost use Rattle.tables.specs.Lines.{names};
 ghost use Rattle.tables.specs.Rows.{rows_of, empty, refusal, added};
 
 use super::Table;
@@ -19,30 +19,13 @@ impl Table {
         Ok(Table { lines, barriers: 0 })
     }
 
-    // Whether there is a line of this number, counted from 1, and it reads.
-    fn reads_at(&self, line: u8) -> bool
-        ensures { result ≡ reading self.now.lines.items line }
-    {
-        if line == 0 {
-            return false;
-        }
-        let row = line as usize - 1;
-        if row >= self.lines.len() {
-            return false;
-        }
-        self.lines[row].access.kind().reads()
-    }
-
     // Whether what the access copies, if anything, was read by an earlier line.
     fn names(&self, access: Access) -> bool
         ensures { result ≡ names self.now.lines.items access }
     {
-        match access {
-            Access::Load => true,
-            Access::Store(Operand::Written(_)) | Access::Swap(Operand::Written(_)) => true,
-            Access::Store(Operand::Copied(line)) | Access::Swap(Operand::Copied(line)) => {
-                self.reads_at(line)
-            }
+        match access.operand() {
+            Some(Operand::Copied(line)) => self.reads_line(line as usize),
+            _ => true,
         }
     }
 
@@ -52,7 +35,7 @@ impl Table {
             × (rows_of self.new ≡ added (rows_of self.old) (Operation access cell)))
             (λ e. (refusal (rows_of self.old) (Operation access cell) ≡ Some e) × (self.new ≡ self.old)) }
     {
-        let count = self.lines.len();
+        let count = self.line_count();
         let number = count + 1;
         if count >= LINES {
             return Err(Fault::TableFull(number));
@@ -108,29 +91,5 @@ impl Table {
         ensures { rows_of self.new ≡ record { lines = take count (rows_of self.old).lines; barriers = (rows_of self.old).barriers } }
     {
         self.lines.truncate(count);
-    }
-
-    // How many lines there are.
-    pub(crate) fn line_count(&self) -> usize
-        ensures { result ≡ length (rows_of self.now).lines }
-    {
-        self.lines.len()
-    }
-
-    // How many barriers there are.
-    pub(crate) fn barrier_count(&self) -> u8
-        ensures { result ≡ (rows_of self.now).barriers }
-    {
-        self.barriers
-    }
-
-    // The line in this row, counted from 0, if there is one.
-    pub(crate) fn row(&self, row: usize) -> Option<Line>
-        ensures { result ≡ nth self.now.lines.items row }
-    {
-        if row >= self.lines.len() {
-            return None;
-        }
-        Some(self.lines[row])
     }
 }

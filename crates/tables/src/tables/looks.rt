@@ -1,27 +1,26 @@
 // Making tables, adding to them, and looking at their lines.
-ghost use Rattle.std.specs.Prelude.{◌≡◌, length, take, IfOk, Some, None, MatchResult, slice_index_or, slice_set};
-ghost use Rattle.tables.specs.Size.{unit};
-ghost use Rattle.tables.specs.Rows.{empty};
+ghost use Rattle.std.specs.Prelude.{◌≡◌, ◌+◌, ◌-◌, ◌<◌, ◌≤◌, ◌⊎◌, length, take, IfOk, IsSome, Some, None, MatchOption, MatchResult, slice_index_or, slice_set};
+ghost use Rattle.faults.specs.declared.Fault.TheVariants.{ProcessorUnknown};
+ghost use Rattle.tables.specs.Size.{unit, number};
+ghost use Rattle.tables.specs.Rows.{rows_of, empty};
 ghost use Rattle.tables.specs.Contents.{contents, blank, refused, with_added};
-ghost use Rattle.tables.specs.View.{line_at, reads_at, writes_at, cell_at, is_read, is_write, is_event};
+ghost use Rattle.tables.specs.Places.{line_refused};
+ghost use Rattle.tables.specs.View.{line_at, reads_at, writes_at, cell_at, operand_at, copied_by, copy_at, written_number, number_at, is_read, is_write, is_event};
 
 use super::Tables;
-use crate::line::{Entry, Line};
+use crate::line::{Entry, Line, Operand};
 use crate::table::Table;
-use crate::{LINES, PLACES, PROCESSORS};
+use crate::{LINES, PROCESSORS};
 use faults::Fault;
 use std::alloc::{AllocError, Global};
+use std::array;
 
 impl Tables {
     // Empty tables with all their room.
     pub(crate) fn new(heap: Global) -> Result<Tables, AllocError>
         ensures { IfOk result (λ t. contents t ≡ blank) }
     {
-        let mut rows = Vec::with_capacity(heap, PROCESSORS)?;
-        rows.push_reserved(Table::new(heap)?);
-        rows.push_reserved(Table::new(heap)?);
-        rows.push_reserved(Table::new(heap)?);
-        rows.push_reserved(Table::new(heap)?);
+        let rows = array::try_from_fn(|_| Table::new(heap))?;
         Ok(Tables { rows })
     }
 
@@ -32,18 +31,16 @@ impl Tables {
             × (contents self.new ≡ with_added (contents self.old) processor entry))
             (λ e. (refused (contents self.old) processor entry ≡ Some e) × (contents self.new ≡ contents self.old)) }
     {
-        if processor < 1 || processor as usize > PROCESSORS {
-            return Err(Fault::ProcessorUnknown);
-        }
-        self.rows[processor as usize - 1].add(entry)
+        let table = Tables::table_of(processor)?;
+        self.rows[table].add(entry)
     }
 
     // Takes all lines and barriers away; the room stays.
     pub(crate) fn clear(&mut self)
         ensures { contents self.new ≡ blank }
     {
-        for table in 0..PROCESSORS {
-            self.rows[table].clear();
+        for table in &mut self.rows {
+            table.clear();
         }
     }
 
@@ -51,69 +48,99 @@ impl Tables {
     pub fn shorten(&mut self, table: usize, count: usize)
         ensures { contents self.new ≡ slice_set (contents self.old) table (record { lines = take count (slice_index_or (contents self.old) table empty).lines; barriers = (slice_index_or (contents self.old) table empty).barriers }) }
     {
+        // By index: a proof loses what is written through an array's get_mut.
         if table < PROCESSORS {
             self.rows[table].shorten(count);
         }
     }
 
-    /// How many lines a table has; tables count from 0.
+    /// The table of a processor, counted from 0, or the fault that there is no such processor.
+    pub fn table_of(processor: u32) -> Result<usize, Fault>
+        ensures { MatchResult result
+            (λ t. (processor ≡ t + 1) × (t < unit.tables))
+            (λ e. (e ≡ ProcessorUnknown) × ((processor < 1) ⊎ (unit.tables < processor))) }
+    {
+        if processor < 1 || processor as usize > PROCESSORS {
+            return Err(Fault::ProcessorUnknown);
+        }
+        Ok(processor as usize - 1)
+    }
+
+    /// A table, if there is one of this number; tables count from 0.
+    pub fn table(&self, table: usize) -> Option<&Table>
+        ensures { MatchOption result (unit.tables ≤ table) (λ t. (table < unit.tables) × (rows_of t.now ≡ slice_index_or (contents self.now) table empty)) }
+    {
+        self.rows.get(table)
+    }
+
+    /// How many lines a table has, and 0 where there is none; tables count from 0.
     pub fn line_count(&self, table: usize) -> usize
         ensures { result ≡ length (slice_index_or (contents self.now) table empty).lines }
     {
-        if table >= PROCESSORS {
-            return 0;
-        }
-        self.rows[table].line_count()
+        self.table(table).map_or(0, |table| table.line_count())
     }
 
-    /// How many barriers a table has, those after its last line included; tables count from 0.
+    /// How many barriers a table has, those after its last line included, and 0 where there is none; tables count from 0.
     pub fn barrier_count(&self, table: usize) -> u8
         ensures { result ≡ (slice_index_or (contents self.now) table empty).barriers }
     {
-        if table >= PROCESSORS {
-            return 0;
+        self.table(table).map_or(0, |table| table.barrier_count())
+    }
+
+    /// The place of a line by its processor and its number there, both counted from 1, or the fault that there is none.
+    pub fn place_of(&self, processor: u32, line: u32) -> Result<usize, Fault>
+        ensures refused { MatchResult result
+            (λ _. line_refused (contents self.now) processor line ≡ None)
+            (λ e. line_refused (contents self.now) processor line ≡ Some e) }
+        ensures place { IfOk result (λ n. n ≡ number unit (processor - 1) (line - 1)) }
+        ensures below { IfOk result (λ n. n < 128) }
+        ensures found { IfOk result (λ n. IsSome (line_at unit (contents self.now) n)) }
+    {
+        let table = Tables::table_of(processor)?;
+        let number = line as usize;
+        if number < 1 || number > self.line_count(table) {
+            return Err(Fault::LineUnknown(number));
         }
-        self.rows[table].barrier_count()
+        Ok(table * LINES + number - 1)
     }
 
     /// The line at this place: 32 places for each processor.
     pub fn line_at(&self, place: usize) -> Option<Line>
         ensures { result ≡ line_at unit (contents self.now) place }
     {
-        if place >= PLACES {
-            return None;
-        }
-        self.rows[place / LINES].row(place % LINES)
+        self.table(place / LINES)?.line(place % LINES)
     }
 
     /// Whether the line at this place reads.
     pub fn reads(&self, place: usize) -> bool
         ensures { result ≡ reads_at unit (contents self.now) place }
     {
-        match self.line_at(place) {
-            Some(line) => line.access.kind().reads(),
-            None => false,
-        }
+        self.line_at(place)
+            .is_some_and(|line| line.access.kind().reads())
     }
 
     /// Whether the line at this place writes.
     pub fn writes(&self, place: usize) -> bool
         ensures { result ≡ writes_at unit (contents self.now) place }
     {
-        match self.line_at(place) {
-            Some(line) => line.access.kind().writes(),
-            None => false,
-        }
+        self.line_at(place)
+            .is_some_and(|line| line.access.kind().writes())
     }
 
     /// The cell of the line at this place, and 0 where there is none.
     pub fn cell(&self, place: usize) -> u8
         ensures { result ≡ cell_at unit (contents self.now) place }
     {
-        match self.line_at(place) {
-            Some(line) => line.cell,
-            None => 0,
-        }
+        self.line_at(place).map_or(0, |line| line.cell)
+    }
+
+    /// What the line at this place writes, if there is one and it writes.
+    pub fn operand(&self, place: usize) -> Option<Operand>
+        ensures is { result ≡ operand_at unit (contents self.now) place }
+        ensures copied { copy_at unit (contents self.now) place ≡ copied_by unit place result }
+        ensures number { number_at unit (contents self.now) place ≡ written_number result }
+    {
+        self.line_at(place)?.access.operand()
     }
 
     /// Whether this is the code of a read event of the tables.

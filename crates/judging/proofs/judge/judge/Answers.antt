@@ -1,12 +1,9 @@
-use Rattle.std.proofs.Common.{ℕ, List, length, get_or, Ok, Err, sym, refl, ap, subst, arith}
+use Rattle.std.proofs.Common.{ℕ, List, length, Ok, Err, refl, ap, subst, arith}
 use Rattle.faults.specs.declared.Fault.TheVariants.{SheetShort, EventLacking}
 use Rattle.tables.specs.Contents.{contents}
+use Rattle.tables.specs.Rows.{Rows}
 use Rattle.tables.specs.Size.{unit, places}
-use Rattle.tables.specs.View.{is_event}
-use Rattle.tables.proofs.Goods.{good}
 use Rattle.judging.specs.Case.{Case, case, VerdictOn, Answered, short, lacking}
-use Rattle.judging.specs.Searches.{AllBelow}
-use Rattle.judging.proofs.Beyond.{event_low}
 use Rattle.judging.proofs.Deciding.{passes_all}
 use Rattle.judging.proofs.Listing.{listed_from, lacks_from}
 use Rattle.judging.proofs.judge.judge.Goals as goal
@@ -19,9 +16,9 @@ returns-then-size-lt-PLACES g c =
     let C : Case g.K.WordKind.Meaning =
     case g.R.WaitRule.waits g.K.WordKind.meaning g.K.WordKind.starts g.K.WordKind.writtens t c.args.order.now xs in
     let s = c.size-size.ensures in
-    let a : Answered C (length xs) (Err (SheetShort c.size-size.result)) =
+    let a : Answered C {T = Unit {0}} (length xs) (Err (SheetShort c.size-size.result)) =
     short (let q = c.if-size-lt-PLACES.true in omega arith) (ap (λ (n : ℕ). SheetShort n) s) in
-    record { answer = a; exactly = passes_all C (length xs) (Err (SheetShort c.size-size.result)) a; same = refl; named = refl }
+    record { answer = a; exactly = passes_all C (length xs) {T = Unit {0}} (Err (SheetShort c.size-size.result)) a; same = refl; named = refl }
 
 pub returns-in-Some : goal.returns-in-Some
 unfolding places
@@ -32,41 +29,32 @@ returns-in-Some g c =
     case g.R.WaitRule.waits g.K.WordKind.meaning g.K.WordKind.starts g.K.WordKind.writtens t c.args.order.now xs in
     let s = c.size-size.ensures in
     let h = c.in-Some.ensures in
-    let a : Answered C (length xs) (Err (EventLacking c.in-Some.i)) =
+    let a : Answered C {T = Unit {0}} (length xs) (Err (EventLacking c.in-Some.i)) =
     lacking c.in-Some.i (let q = c.if-size-lt-PLACES.false in omega arith)
     (lacks_from unit t g.R.WaitRule.waits c.args.order.now c.in-Some.i h.0 h.1 h.2) refl in
-    record { answer = a; exactly = passes_all C (length xs) (Err (EventLacking c.in-Some.i)) a; same = refl; named = refl }
-
-pub of-standing-requires : goal.of-standing-requires
-of-standing-requires g c = λ i h.
-    let t = c.args.tables.now in event_low (contents t) (good t).tables (get_or c.args.order.now i 0) (c.in_default.ensures i h)
-
-pub weigh-requires : goal.weigh-requires
-weigh-requires g c = record {
-  listed =
-      subst (λ (o : List ℕ). AllBelow (is_event unit (contents c.args.tables.now)) o (length o)) (sym c.of-standing.ensures)
-      c.in_default.ensures;
-}
+    record { answer = a; exactly = passes_all C (length xs) {T = Unit {0}} (Err (EventLacking c.in-Some.i)) a; same = refl; named = refl }
 
 pub returns : goal.returns
 unfolding places
 returns g c =
     let t = contents c.args.tables.now in
     let xs = c.args.sheet.now.places.now in
-    let C : List ℕ → Case g.K.WordKind.Meaning = λ o.
-    case g.R.WaitRule.waits g.K.WordKind.meaning g.K.WordKind.starts g.K.WordKind.writtens t o xs in
+    let C : List Rows → List ℕ → Case g.K.WordKind.Meaning = λ ts o.
+    case g.R.WaitRule.waits g.K.WordKind.meaning g.K.WordKind.starts g.K.WordKind.writtens ts o xs in
     let o = c.args.order.now in
     let s = c.size-size.ensures in
-    let a : Answered (C o) (length xs) (Ok c.weigh.result) = (
+    let e = c.of-standing.ensures in
+    let j = subst (λ (p : List ℕ). VerdictOn (C (contents c.of-standing.result.tables.now) p) c.weigh.result) e.of_order c.weigh.ensures.judged in
+    let a : Answered (C t o) (length xs) (Ok c.weigh.result) = (
       record {
         room = let q = c.if-size-lt-PLACES.false in omega arith;
         listed = listed_from unit t g.R.WaitRule.waits o c.in_default.ensures;
       },
-      subst (λ (p : List ℕ). VerdictOn (C p) c.weigh.result) c.of-standing.ensures c.weigh.ensures.judged,
+      subst (λ (ts : List Rows). VerdictOn (C ts o) c.weigh.result) (ap contents e.of_tables) j,
     ) in
     record {
       answer = a;
-      exactly = passes_all (C o) (length xs) (Ok c.weigh.result) a;
+      exactly = passes_all (C t o) (length xs) (Ok c.weigh.result) a;
       same = c.weigh.ensures.same;
       named = c.weigh.ensures.named;
     }

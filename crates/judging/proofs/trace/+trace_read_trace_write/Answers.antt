@@ -1,15 +1,12 @@
 use Rattle.std.proofs.Common.{◌/◌, ◌%◌, sym, refl, ap, ap₂, add-one, arith}
 use Rattle.tables.specs.Size.{table, row}
 use Rattle.tables.proofs.Goods.{good}
-use Rattle.model.specs.declared.verdict.End.TheVariants.{Written, Start}
+use Rattle.rules.specs.declared.words.Origin.TheVariants.{Start, Line}
 use Rattle.model.specs.Trace.{at_start, at_write, at_end, at_copy}
 use Rattle.judging.specs.Outcomes.{order_of}
 use Rattle.judging.specs.Traces.{reach}
-use Rattle.judging.proofs.Passings.{settled, goes_up, countable}
+use Rattle.judging.proofs.Passings.{goes_up, countable}
 use Rattle.judging.proofs.trace.+trace_read_trace_write.Goals as goal
-
-pub trace_read-source-requires : goal.trace_read-source-requires
-trace_read-source-requires t c = record { reads = c.requires; settled = settled c.args.passing.now }
 
 pub trace_read-trace_write-trace-requires : goal.trace_read-trace_write-trace-requires
 trace_read-trace_write-trace-requires t c =
@@ -43,13 +40,13 @@ pub trace_write-trace_read-requires : goal.trace_write-trace_read-requires
 trace_write-trace_read-requires t c =
     let p = c.args.passing.now in
     let e = c.in-Some.ensures in
-    let d = (good p.tables.now).copies c.args.m c.in-Some.k (sym e) in
+    let d = (good p.complete.standing.tables.now).copies c.args.m c.in-Some.k (sym e) in
     (let q = c.decreases in let a = ap (reach (order_of p)) e in omega arith, d.2)
 
 pub trace_write-returns-in-None : goal.trace_write-returns-in-None
 unfolding table row
 trace_write-returns-in-None t c = record {
-  is = λ w. at_end (sym c.in-None.ensures) (ap₂ Written (add-one (c.args.m / 32)) (add-one (c.args.m % 32))) refl;
+  is = λ w. at_end (sym c.in-None.ensures) (ap₂ Line (add-one (c.args.m / 32)) (add-one (c.args.m % 32))) refl;
   few = omega arith;
 }
 

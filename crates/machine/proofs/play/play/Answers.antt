@@ -21,14 +21,11 @@ loop-call-preserved g c =
       c.make.ensures.named ∙ c.loop-call.invariant.2,
     )
 
-pub returns : goal.returns
-returns g c =
+pub returns-clause-played : goal.returns-clause-played
+returns-clause-played g c =
     let W = g.K.WordKind in
     let K : Words W.Meaning = record { start = W.starts; written = W.writtens } in
-    record {
-      played = played g.R.WaitRule.waits K c.args.calls.now g.met.R.WaitRule.ordered (contents c.args.draft.tables) (good c.args.draft.tables)
-          (map W.meaning c.args.sheet.now.places.now) (map W.meaning c.loop-call.sheet.places.now)
-          c.close-machine.result c.loop-call.machine c.finish.result c.close-machine.ensures.state c.close-machine.ensures.tables
-          c.loop-call.call-index c.loop-call-test.false c.loop-call.invariant.0 c.loop-call.invariant.1 c.finish.ensures.order c.finish.ensures.lines;
-      named = c.loop-call.invariant.2;
-    }
+    played g.R.WaitRule.waits K c.args.calls.now g.met.R.WaitRule.ordered (contents c.args.draft.tables) (good c.args.draft.tables)
+    (map W.meaning c.args.sheet.now.places.now) (map W.meaning c.loop-call.sheet.places.now)
+    c.close-machine.result c.loop-call.machine c.finish.result c.close-machine.ensures.state c.close-machine.ensures.tables
+    c.loop-call.call-index c.loop-call-test.false c.loop-call.invariant.0 c.loop-call.invariant.1 c.finish.ensures.order c.finish.ensures.lines

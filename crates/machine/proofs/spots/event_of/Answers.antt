@@ -1,7 +1,11 @@
-use Rattle.std.proofs.Common.{refl, arith}
+use Rattle.std.proofs.Common.{arith}
 use Rattle.tables.specs.Size.{number}
 use Rattle.machine.proofs.spots.event_of.Goals as goal
 
-pub returns : goal.returns
+pub returns-clause-spot : goal.returns-clause-spot
 unfolding number
-returns c = record { spot = omega arith; coded = omega arith; sided = refl }
+returns-clause-spot c = omega arith
+
+pub returns-clause-coded : goal.returns-clause-coded
+unfolding number
+returns-clause-coded c = omega arith

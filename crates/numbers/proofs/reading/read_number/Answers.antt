@@ -3,7 +3,7 @@ use Rattle.std.proofs.lemmas.Result.{err_from_is_err_and}
 use Rattle.faults.specs.declared.Fault.TheVariants.{NumberMalformed}
 use Rattle.numbers.specs.Amiss.{Reads}
 use Rattle.numbers.specs.Number.{Shortest}
-use Rattle.numbers.proofs.Standing.{number_made, reads_whole, reads_ends, reads_malformed}
+use Rattle.numbers.proofs.Standing.{number_made, told}
 use Rattle.numbers.proofs.reading.read_number.Goals as goal
 use Rattle.numbers.proofs.reading.read_number.Goals.{else-last-at-via-then-last-at+else-top-eq0, else-last-at-via-else-last-at}
 
@@ -20,12 +20,7 @@ returns-in_err-value c =
       | inl w ↦ inl (rw place at w.0, w.1)
       | inr w ↦ inr (rw place at w.0, inl w.1)
     ]) in
-    record {
-      reads = reads;
-      whole = reads_whole xs base at r reads;
-      ends = reads_ends xs base at r reads;
-      malformed = reads_malformed xs base at r reads;
-    }
+    told xs base at r reads
 
 pub returns-then-top-eq0 : goal.returns-then-top-eq0
 returns-then-top-eq0 c =
@@ -44,12 +39,7 @@ returns-then-top-eq0 c =
         idle = omega arith;
       }),
     ) in
-    record {
-      reads = reads;
-      whole = reads_whole xs base at r reads;
-      ends = reads_ends xs base at r reads;
-      malformed = reads_malformed xs base at r reads;
-    }
+    told xs base at r reads
 
 pub returns : goal.returns
 returns c =
@@ -66,9 +56,4 @@ returns c =
     ] in
     let r = Ok (v, p + 1) in
     let reads : Reads xs base at r = number_made xs at v p bytes c.in_ok-value.ensures least in
-    record {
-      reads = reads;
-      whole = reads_whole xs base at r reads;
-      ends = reads_ends xs base at r reads;
-      malformed = reads_malformed xs base at r reads;
-    }
+    told xs base at r reads

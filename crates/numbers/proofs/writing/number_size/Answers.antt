@@ -7,10 +7,5 @@ pub groups-requires : goal.groups-requires
 unfolding bound
 groups-requires c = omega arith
 
-pub returns : goal.returns
-returns c = record {
-  size = c.groups.ensures.0;
-  some = omega arith;
-  few = omega arith;
-  fewest = λ bytes at last s. let h = fewest 5 bytes at c.args.value last s in omega arith;
-}
+pub returns-clause-fewest : goal.returns-clause-fewest
+returns-clause-fewest c = λ bytes at last s. let h = fewest 5 bytes at c.args.value last s in omega arith

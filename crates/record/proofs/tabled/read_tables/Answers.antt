@@ -2,16 +2,10 @@ use Rattle.std.proofs.Common.{[], ◌∷◌, ◌++◌, refl, inl, inr, arith}
 use Rattle.std.proofs.lemmas.Result.{err_from_is_err_and}
 use Rattle.std.proofs.lemmas.List.{length_push}
 use Rattle.record.specs.Form.{none, more}
-use Rattle.record.proofs.Keeping.{not_yet}
 use Rattle.record.proofs.tabled.read_tables.Goals as goal
 
 pub loop-table-init : goal.loop-table-init
-loop-table-init c = ([], none refl refl, refl, c.requires)
-
-pub read_table-requires : goal.read_table-requires
-read_table-requires c =
-    let v = c.loop-table.invariant in
-    (omega arith, (v.3.size, not_yet v.0 _ _ c.loop-table.table v.2 v.3))
+loop-table-init c = ([], none refl refl, refl, c.new-reading.ensures)
 
 pub returns-in_err-part : goal.returns-in_err-part
 returns-in_err-part c =
@@ -48,8 +42,3 @@ loop-table-preserved c =
       omega (arith, v.2),
       t.kept v.0 v.2 v.3,
     )
-
-pub returns : goal.returns
-returns c =
-    let v = c.loop-table.invariant in
-    (v.0, (v.1, omega (arith, v.2)), v.3)

@@ -13,4 +13,4 @@ invariant-loop-table l =
     (ts : List (List Item))
     × Run (λ front. held l.bytes table_form) (λ front p. length front ≡ unit.tables) l.at ts l.next
     × (length ts ≡ l.table)
-    × Kept ts (contents l.draft.tables) l.claims
+    × Kept ts (contents l.reading.draft.tables) l.reading.claims

@@ -1,10 +1,8 @@
 use Rattle.std.proofs.Common.{◌≡◌, ℕ, List, ◌++◌, length, get_or, drop, Option, sym, refl, ap, ◌∙◌, subst, arith}
 use Rattle.std.proofs.lemmas.Result.{err_from_is_err_and}
-use Rattle.std.proofs.lemmas.List.{length-take-le}
 use Rattle.faults.specs.declared.Fault.TheVariants.{SheetShort, OutputShort}
-use Rattle.tables.specs.Contents.{contents}
 use Rattle.record.specs.Record.{read_form, or_else}
-use Rattle.record.proofs.Keeping.{kept_none, kept_tables}
+use Rattle.record.proofs.Keeping.{kept_tables}
 use Rattle.record.proofs.Pieces.{no_sheet, no_record, no_output, read_all, four_tables}
 use Rattle.record.proofs.Says.{says_one}
 use Rattle.record.proofs.whole.read.Goals as goal
@@ -24,9 +22,6 @@ returns-then-size-lt-PLACES c =
       named = refl;
     }
 
-pub read_bytes-requires : goal.read_bytes-requires
-read_bytes-requires c = (kept_none (contents c.emptied-draft.result.tables) c.emptied-draft.ensures, refl)
-
 pub returns-in_err-rule : goal.returns-in_err-rule
 returns-in_err-rule c =
     let p = err_from_is_err_and c.from_residual.result c.from_residual.ensures.1 in
@@ -45,8 +40,7 @@ returns-then-output-count c =
     let g = c.in_ok-rule.ensures in
     let n = length c.args.sheet.now.places.now in
     let m = length c.args.output.now in
-    let l : length g.said.order ≡ c.in_ok-rule.count =
-    ap length (sym g.order_is) ∙ length-take-le c.in_ok-rule.count c.read_bytes.new.codes (omega (arith, g.few)) in
+    let l : length g.said.order ≡ c.len-count.result = ap length (sym g.order_is) ∙ sym c.len-count.ensures.value in
     record {
       read = record {
         amiss = subst (λ (k : ℕ). (read_form c.args.bytes.now n m).amiss 0 (OutputShort k)) l
@@ -63,8 +57,7 @@ returns c =
     let g = c.in_ok-rule.ensures in
     let n = length c.args.sheet.now.places.now in
     let m = length c.args.output.now in
-    let l : length g.said.order ≡ c.in_ok-rule.count =
-    ap length (sym g.order_is) ∙ length-take-le c.in_ok-rule.count c.read_bytes.new.codes (omega (arith, g.few)) in
+    let l : length g.said.order ≡ c.len-count.result = ap length (sym g.order_is) ∙ sym c.len-count.ensures.value in
     record {
       read = record {
         said = g.said;
@@ -77,7 +70,9 @@ returns c =
         };
         counted = sym l;
         fits = omega arith;
-        ordered = c.put_codes.ensures ∙ ap (λ (x : List ℕ). x ++ drop c.in_ok-rule.count c.args.output.now) g.order_is;
+        ordered = c.put_codes.ensures
+            ∙ ap (λ (x : List ℕ). x ++ drop (length x) c.args.output.now) (c.deref.ensures.0 ∙ g.order_is)
+            ∙ ap (λ (k : ℕ). g.said.order ++ drop k c.args.output.now) l;
       };
       sole = says_one c.args.bytes.now (length c.args.sheet.now.places.now) (length c.args.output.now);
       named = c.put_claims.ensures.named;

@@ -1,4 +1,4 @@
-use Rattle.std.proofs.Common.{◌≡◌, sym, ap, ◌∙◌, arith, rules}
+use Rattle.std.proofs.Common.{◌≡◌, sym, ap, ◌∙◌, arith}
 use Rattle.tables.specs.Contents.{contents}
 use Rattle.tables.specs.Size.{places}
 use Rattle.scheduling.proofs.Needing.{calls_below, below_none, below_more}
@@ -6,9 +6,6 @@ use Rattle.scheduling.proofs.needed.calls_needed.Goals as goal
 
 pub loop-place-init : goal.loop-place-init
 loop-place-init c = (sym (below_none (contents c.args.tables.now)), omega arith)
-
-pub overflow_add-calls : goal.overflow_add-calls
-overflow_add-calls c = let i = c.loop-place.invariant.1 in let f = c.calls_at-calls.ensures.few in search rules
 
 pub loop-place-preserved : goal.loop-place-preserved
 loop-place-preserved c =

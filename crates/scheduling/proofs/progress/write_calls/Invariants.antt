@@ -6,8 +6,8 @@ use Rattle.model.specs.Schedule.{schedule}
 use Rattle.scheduling.specs.Calls.{issued_by, calls_of, codes_of}
 use Rattle.scheduling.proofs.progress.write_calls.Given as goal
 
-abbrev pub invariant-loop-i : goal.invariant-loop-i
-invariant-loop-i l =
+abbrev pub invariant-loop-event : goal.invariant-loop-event
+invariant-loop-event l =
     (done : List Call)
-    × (done ++ schedule unit (issued_by l.progress.issued) (drop l.i l.order) ≡ calls_of l.order)
+    × (done ++ schedule unit (issued_by l.progress.issued) (drop l.event-index l.order) ≡ calls_of l.order)
     × Put (codes_of done) l.initial.output 0 l.progress.count l.output

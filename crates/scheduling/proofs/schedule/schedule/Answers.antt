@@ -1,74 +1,48 @@
-use Rattle.std.proofs.Common.{◌≡◌, ℕ, length, get_or, Ok, Err, sym, refl, ap, ◌∙◌, subst, arith}
+use Rattle.std.proofs.Common.{◌≡◌, ℕ, length, get_or, Result, refl, ap, subst, arith}
 use Rattle.std.proofs.lemmas.Result.{err_from_is_err_and}
 use Rattle.faults.specs.declared.Fault.TheVariants.{OutputShort}
 use Rattle.tables.specs.Contents.{contents}
 use Rattle.tables.specs.Size.{unit}
 use Rattle.tables.proofs.Goods.{good}
-use Rattle.model.specs.declared.verdict.Verdict.{Verdict}
+use Rattle.model.specs.declared.verdict.Breach.{Breach}
 use Rattle.model.specs.Program.{program}
 use Rattle.model.proofs.Promises.{axioms_reached_by_schedule_lem, schedule_length}
-use Rattle.judging.specs.declared.passing.Outcome.TheVariants.{Broken as Fails}
 use Rattle.judging.specs.Case.{Case, case, MeetsSix, VerdictOn}
 use Rattle.judging.specs.Words.{kind_of, words_on}
 use Rattle.judging.proofs.Beyond.{event_low}
 use Rattle.judging.proofs.Passings.{events_listed}
 use Rattle.scheduling.specs.Calls.{needed}
 use Rattle.scheduling.specs.Scheduled.{refused, short}
-use Rattle.scheduling.proofs.Answering.{holds_calls, refused_exactly, broken_exactly, short_exactly, written_exactly}
+use Rattle.scheduling.proofs.Answering.{holds_calls, written_exactly}
 use Rattle.scheduling.proofs.schedule.schedule.Goals as goal
 
-pub returns-in_err-axiom : goal.returns-in_err-axiom
-returns-in_err-axiom g c =
+pub returns-in_err-breach-clause-answer : goal.returns-in_err-breach-clause-answer
+returns-in_err-breach-clause-answer g c =
     let p = err_from_is_err_and c.from_residual.result c.from_residual.ensures.1 in
+    rw (p.1, p.2) (refused c.in_err-breach.ensures.answer, refl)
+
+pub returns-in-Err-clause-answer : goal.returns-in-Err-clause-answer
+returns-in-Err-clause-answer g c =
     let xs = c.args.sheet.now.places.now in
     let C : Case g.K.WordKind.Meaning =
     case g.R.WaitRule.waits g.K.WordKind.meaning g.K.WordKind.starts g.K.WordKind.writtens
     (contents c.args.tables.now) c.args.order.now xs in
-    let e = c.in_err-axiom.field-0.0 in
-    let j = c.in_err-axiom.ensures in
-    rw (p.1, p.2) (record {
-      answer = (refused j.answer, refl);
-      exactly = refused_exactly C (length xs) (length c.args.output.now) e (Err e) j.exactly;
-      reached = tt;
-      same = c.judge.ensures.same;
-      named = c.judge.ensures.named;
-    })
+    let a = c.in_ok-breach.ensures.answer in
+    let b = c.in-Err in
+    (a.0, (subst (λ (v : Result Unit Breach). VerdictOn C v) b.is a.1, refl))
 
-pub returns-in-Broken : goal.returns-in-Broken
-returns-in-Broken g c =
-    let t = contents c.args.tables.now in
-    let xs = c.args.sheet.now.places.now in
-    let C : Case g.K.WordKind.Meaning =
-    case g.R.WaitRule.waits g.K.WordKind.meaning g.K.WordKind.starts g.K.WordKind.writtens t c.args.order.now xs in
-    let a = c.in_ok-axiom.ensures.answer in
-    let b = c.in-Broken in
-    record {
-      answer = (a.0, (subst (λ (v : Verdict). VerdictOn C v) b.is a.1, refl));
-      exactly = broken_exactly C (length xs) (length c.args.output.now) b.axiom b.first b.second (Ok (Fails b.axiom b.first b.second))
-          (λ h k. ap (λ (v : Verdict). Ok v) (sym b.is) ∙ c.in_ok-axiom.ensures.exactly h k);
-      reached = tt;
-      same = c.judge.ensures.same;
-      named = c.judge.ensures.named;
-    }
-
-pub returns-then-output-needed : goal.returns-then-output-needed
-returns-then-output-needed g c =
+pub returns-then-output-needed-clause-answer : goal.returns-then-output-needed-clause-answer
+returns-then-output-needed-clause-answer g c =
     let t = contents c.args.tables.now in
     let w = g.R.WaitRule.waits in
     let xs = c.args.sheet.now.places.now in
     let C : Case g.K.WordKind.Meaning =
     case w g.K.WordKind.meaning g.K.WordKind.starts g.K.WordKind.writtens t c.args.order.now xs in
-    let a = c.in_ok-axiom.ensures.answer in
+    let a = c.in_ok-breach.ensures.answer in
     let n = c.calls_needed-needed.result in
     let e : n ≡ needed (program unit w t) = c.calls_needed-needed.ensures w in
     let l = c.if-output-needed.true in
-    record {
-      answer = (short a.0 (subst (λ (v : Verdict). VerdictOn C v) c.in_default.is a.1) (omega (arith, e, l)) (ap (λ (m : ℕ). OutputShort m) e), refl);
-      exactly = short_exactly C (length xs) (length c.args.output.now) n e l;
-      reached = tt;
-      same = c.judge.ensures.same;
-      named = c.judge.ensures.named;
-    }
+    (short a.0 (subst (λ (v : Result Unit Breach). VerdictOn C v) c.in_default.is a.1) (omega (arith, e, l)) (ap (λ (m : ℕ). OutputShort m) e), refl)
 
 pub write_calls-requires : goal.write_calls-requires
 write_calls-requires g c =
@@ -80,8 +54,8 @@ write_calls-requires g c =
     let xs = c.args.sheet.now.places.now in
     let words = words_on g.K.WordKind.meaning g.K.WordKind.starts xs in
     let C : Case g.K.WordKind.Meaning = case w g.K.WordKind.meaning g.K.WordKind.starts g.K.WordKind.writtens ts o xs in
-    let a = c.in_ok-axiom.ensures.answer in
-    let S : MeetsSix C = subst (λ (v : Verdict). VerdictOn C v) c.in_default.is a.1 in
+    let a = c.in_ok-breach.ensures.answer in
+    let S : MeetsSix C = subst (λ (v : Result Unit Breach). VerdictOn C v) c.in_default.is a.1 in
     let l = schedule_length w g.met.R.WaitRule.ordered K unit ts (good t) o words (a.0.listed, S) in
     let e : c.calls_needed-needed.result ≡ needed (program unit w ts) = c.calls_needed-needed.ensures w in (
       λ i h. event_low ts (good t).tables (get_or o i 0) (events_listed ts w o a.0.listed i h),
@@ -98,8 +72,8 @@ returns g c =
     let xs = c.args.sheet.now.places.now in
     let words = words_on g.K.WordKind.meaning g.K.WordKind.starts xs in
     let C : Case g.K.WordKind.Meaning = case w g.K.WordKind.meaning g.K.WordKind.starts g.K.WordKind.writtens ts o xs in
-    let a = c.in_ok-axiom.ensures.answer in
-    let S : MeetsSix C = subst (λ (v : Verdict). VerdictOn C v) c.in_default.is a.1 in
+    let a = c.in_ok-breach.ensures.answer in
+    let S : MeetsSix C = subst (λ (v : Result Unit Breach). VerdictOn C v) c.in_default.is a.1 in
     let l = schedule_length w g.met.R.WaitRule.ordered K unit ts (good t) o words (a.0.listed, S) in
     let H = holds_calls (program unit w ts) o c.args.output.now c.write_calls.new.output c.write_calls.result l c.write_calls.ensures in
     record {

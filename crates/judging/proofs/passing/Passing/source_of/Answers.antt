@@ -3,11 +3,7 @@ use Rattle.tables.specs.Size.{unit}
 use Rattle.model.specs.Program.{program}
 use Rattle.judging.specs.Outcomes.{rows_of}
 use Rattle.judging.proofs.Deciding.{code_if_lem}
-use Rattle.judging.proofs.Passings.{settled}
 use Rattle.judging.proofs.passing.Passing.source_of.Goals as goal
-
-pub source-requires : goal.source-requires
-source-requires c = record { reads = c.requires; settled = settled c.args.self.now }
 
 pub returns : goal.returns
 returns c = λ w.

@@ -1,22 +1,22 @@
-use Rattle.std.proofs.Common.{◌^◌, ◌<◌, length, get_or, subst, rules}
+use Rattle.std.proofs.Common.{◌^◌, ◌<◌, length, Result, ap, subst, rules}
 use Rattle.tables.specs.Size.{unit}
 use Rattle.tables.specs.Contents.{contents}
-use Rattle.tables.proofs.Goods.{good}
 use Rattle.model.specs.Program.{program, stored_at}
 use Rattle.model.specs.Axioms.{Meets}
 use Rattle.model.specs.Verdicts.{Judged}
-use Rattle.model.specs.declared.verdict.Verdict.{Verdict}
+use Rattle.model.specs.declared.verdict.Breach.{Breach}
+use Rattle.judging.specs.Sources.{Settled}
+use Rattle.judging.specs.Traces.{ReadsLead}
 use Rattle.judging.specs.Words.{kind_of, words_on}
-use Rattle.judging.proofs.Beyond.{event_low}
-use Rattle.judging.proofs.Passings.{events_listed, settles, leads, invariant}
+use Rattle.judging.proofs.Passings.{events_listed, settles, leads, moved}
 use Rattle.judging.proofs.passing.asks.pass.Goals as goal
 
 pub of-requires : goal.of-requires
-of-requires g c = λ i h.
+of-requires g c =
     let ts = contents c.args.tables.now in
     let o = c.args.order.now in
-    let a = c.in_ok-axiom.ensures.answer in
-    event_low ts (good c.args.tables.now).tables (get_or o i 0) (events_listed ts g.R.WaitRule.waits o a.0.listed i h)
+    let a = c.in_ok-judge.ensures.answer in
+    events_listed ts g.R.WaitRule.waits o a.0.listed
 
 pub invariant_of-result : goal.invariant_of-result
 invariant_of-result g c =
@@ -25,9 +25,25 @@ invariant_of-result g c =
     let w = g.R.WaitRule.waits in
     let K = kind_of g.K.WordKind.starts g.K.WordKind.writtens in
     let words = words_on g.K.WordKind.meaning g.K.WordKind.starts c.args.sheet.now.places.now in
-    let a = c.in_ok-axiom.ensures.answer in
+    let a = c.in_ok-judge.ensures.answer in
     let S : Meets (program unit w ts) (stored_at K unit ts) K.start o words =
-    subst (λ (v : Verdict). Judged (program unit w ts) (stored_at K unit ts) K.start o words v) c.in-Passes.is a.1 in
+    subst (λ (v : Result Unit Breach). Judged (program unit w ts) (stored_at K unit ts) K.start o words v) c.in-Ok.is a.1 in
+    let e = c.of.ensures in
+    record { settled = moved (Settled unit) (ap contents e.of_tables) e.of_order (settles ts w o K words S a.0.listed) }
+
+pub invariant_of-result-in-Ok : goal.invariant_of-result-in-Ok
+invariant_of-result-in-Ok g c =
+    let ts = contents c.args.tables.now in
+    let o = c.args.order.now in
+    let w = g.R.WaitRule.waits in
+    let K = kind_of g.K.WordKind.starts g.K.WordKind.writtens in
+    let words = words_on g.K.WordKind.meaning g.K.WordKind.starts c.args.sheet.now.places.now in
+    let a = c.in_ok-judge.ensures.answer in
+    let S : Meets (program unit w ts) (stored_at K unit ts) K.start o words =
+    subst (λ (v : Result Unit Breach). Judged (program unit w ts) (stored_at K unit ts) K.start o words v) c.in-Ok.is a.1 in
+    let e = c.of.ensures in
     let l : length o < 2 ^ 64 = search rules in
-    let i = invariant ts o c.of.result.order.now c.of.ensures l (settles ts w o K words S a.0.listed) (leads ts w o K words S) in
-    record { short = i.short; listed = i.listed; reads = i.reads; writes = i.writes; stands = i.stands; leads = i.leads }
+    record {
+      short = moved (λ _ p. length p < 2 ^ 64) (ap contents e.of_tables) e.of_order l;
+      leads = moved (ReadsLead unit) (ap contents e.of_tables) e.of_order (leads ts w o K words S);
+    }

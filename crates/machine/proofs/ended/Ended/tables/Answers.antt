@@ -1,6 +1,5 @@
-use Rattle.std.proofs.Common.{refl}
 use Rattle.tables.proofs.Goods.{good}
 use Rattle.machine.proofs.ended.Ended.tables.Goals as goal
 
-pub returns : goal.returns
-returns c = record { same = refl; good = good c.args.self.now.tables }
+pub returns-clause-good : goal.returns-clause-good
+returns-clause-good c = good c.args.self.now.tables

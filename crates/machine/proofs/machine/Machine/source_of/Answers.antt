@@ -1,49 +1,24 @@
-use Rattle.std.proofs.Common.{◌≡◌, ℕ, ◌-◌, ◌%◌, eqb, sym, ap, ◌∙◌, arith}
+use Rattle.std.proofs.Common.{◌≡◌, ℕ, ◌≤◌, true, false, ◌&&◌, eqb, rules, ap, ◌∙◌, arith}
+use borrow.Author.Tests.{tests}
 use Rattle.tables.specs.Size.{unit, places}
 use Rattle.tables.specs.View.{cell_at}
-use Rattle.model.specs.Machine.{earlier, or_else, highest, feeds}
+use Rattle.model.specs.Machine.{or_else, highest, earlier}
 use Rattle.machine.specs.Machines.{state_of, lines_of}
-use Rattle.machine.proofs.Scans.{high_none, high_yes, high_no, high_all, out, earlier_below, earlier_above, cell_fits}
+use Rattle.machine.proofs.Scans.{highest_found, last_from_Range, cell_fits}
 use Rattle.machine.proofs.machine.Machine.source_of.Goals as goal
-use Rattle.machine.proofs.machine.Machine.source_of.Goals.{then-is_feeding, else-is_feeding}
 
-pub last_write-found-requires : goal.last_write-found-requires
-last_write-found-requires c = omega (arith, c.requires.own, cell_fits c.args.self.now.inner.tables c.args.n)
+pub or_else-requires : goal.or_else-requires
+or_else-requires c = let h : c.args.cell ≤ 63 = omega (arith, c.requires.own, cell_fits c.args.self.now.inner.tables c.args.n) in search (rules, h)
 
-pub loop-m-init : goal.loop-m-init
-loop-m-init c =
-    let at = cell_at unit (lines_of c.args.self.now) in let s = state_of c.args.self.now in let n = c.args.n in (
-      c.last_write-found.ensures.value
-          ∙ sym (ap (λ o. or_else o (s.last c.args.cell))
-          (high_none (feeds unit at s n) (n - n % 32) (λ j l. out (s.held j) (earlier unit j n) (eqb (at j) (at n)) (earlier_below n j l)))),
-      c.last_write-found.ensures.within,
-    )
-
-pub loop-m-preserved : goal.loop-m-preserved
-loop-m-preserved c =
-    let at = cell_at unit (lines_of c.args.self.now) in let s = state_of c.args.self.now in let n = c.args.n in
-    elim c.if-is_feeding.branch [
-      | then-is_feeding w ↦ (
-        w.found-is ∙ sym (ap (λ o. or_else o (s.last c.args.cell)) (high_yes (feeds unit at s n) c.loop-m.m (sym w.if-is_feeding.ensures))),
-        λ j e. let a = w.found-is in let b : c.loop-m.m ≡ j = cc in omega arith,
-      )
-      | else-is_feeding w ↦ (
-        w.found-is ∙ c.loop-m.invariant.0
-            ∙ sym (ap (λ o. or_else o (s.last c.args.cell)) (high_no (feeds unit at s n) c.loop-m.m (sym w.if-is_feeding.ensures))),
-        λ j e. c.loop-m.invariant.1 j (sym w.found-is ∙ e),
-      )
-    ]
-
-pub returns : goal.returns
+pub returns-clause-value : goal.returns-clause-value
 unfolding places
-returns c =
-    let at = cell_at unit (lines_of c.args.self.now) in let s = state_of c.args.self.now in let n = c.args.n in
-    let q : c.loop-m.m ≡ n = omega (arith, c.loop-m-test.false) in
-    record {
-      within = c.loop-m.invariant.1;
-      value = c.loop-m.invariant.0
-          ∙ ap (λ (k : ℕ). or_else (highest (feeds unit at s n) k) (s.last c.args.cell)) q
-          ∙ ap (λ o. or_else o (s.last c.args.cell))
-          (sym (high_all (feeds unit at s n) n 128 (omega arith) (λ j l. out (s.held j) (earlier unit j n) (eqb (at j) (at n)) (earlier_above n j l))))
-          ∙ ap (λ (k : ℕ). or_else (highest (feeds unit at s n) 128) (s.last k)) c.requires.own;
-    }
+returns-clause-value c =
+    let at = cell_at unit (lines_of c.args.self.now) in let s = state_of c.args.self.now in let n = c.args.n in let cell = c.args.cell in
+    let run = c.find.ensures.runs in
+    let back = c.rev.ensures.runs run.0 run.0.seen run.1 in
+    let found = highest_found s.held (λ k. eqb (at k) cell) n c.requires.within _
+    (last_from_Range run.0 back.0 _ _ _ (λ k. (s.held k && eqb (at k) cell) ≡ true) (λ k. (s.held k && eqb (at k) cell) ≡ false)
+    back.1 back.2 (search (rules, tests)) (λ x k. search (rules, tests)) (λ x k. search (rules, tests)) _ run.2) in
+    let either : c.or_else.result ≡ or_else c.find.result (s.last cell) = search rules in
+    either ∙ ap (λ o. or_else o (s.last cell)) found
+    ∙ ap (λ (k : ℕ). or_else (highest (λ j. s.held j && (earlier unit j n && eqb (at j) k)) 128) (s.last k)) c.requires.own

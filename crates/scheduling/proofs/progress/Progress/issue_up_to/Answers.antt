@@ -1,8 +1,6 @@
-use Rattle.std.proofs.Common.{◌≡◌, ℕ, suc, ◌+◌, ◌-◌, ◌<◌, ◌≤◌, List, length, get_or, set, ap, ◌∙◌, subst, arith, length-set, rules}
-use Rattle.std.proofs.lemmas.List.{get_or-set_same}
-use Rattle.numbers.specs.Put.{Put}
-use Rattle.model.specs.Schedule.{fill, more}
-use Rattle.scheduling.specs.Calls.{issued_by, codes_of}
+use Rattle.std.proofs.Common.{◌≡◌, ℕ, suc, ◌+◌, ◌-◌, ◌≤◌, List, length, get_or, ap, ◌∙◌, arith, length-set, rules}
+use Rattle.model.specs.Schedule.{fill}
+use Rattle.scheduling.specs.Calls.{issued_by}
 use Rattle.scheduling.proofs.Making.{more_self, none_more, one_issued, put_nothing, put_issue, issues_end}
 use Rattle.scheduling.proofs.progress.Progress.issue_up_to.Goals as goal
 
@@ -45,28 +43,3 @@ loop-self-preserved c =
           i.3 c.put.ensures.written,
       one_issued f is t i.0 (omega (arith, i.2, n, c.requires.0)) (λ x. ap (λ (z : List ℕ). issued_by z x) q ∙ i.4 x),
     )
-
-pub loop-self-smaller : goal.loop-self-smaller
-loop-self-smaller c =
-    let t = c.args.table in
-    let is = c.put.new.self.issued in
-    let n = ap length c.put.ensures.issued in
-    let i : length c.loop-self.self.issued ≡ 4 = c.loop-self.invariant.2 in
-    let l : t < length is = omega (arith, i, n, c.requires.0) in
-    let s : get_or (set is t (get_or is t 0 + 1)) t 0 ≡ get_or is t 0 + 1 = get_or-set_same is t (get_or is t 0 + 1) 0 l in
-    let e : get_or is t 0 ≡ get_or c.loop-self.self.issued t 0 = ap (λ (z : List ℕ). get_or z t 0) c.put.ensures.issued in
-    omega (arith, c.loop-self-test.true)
-
-pub returns : goal.returns
-returns c =
-    let i = c.loop-self.invariant in
-    let p = c.args.self.now in
-    let f : ℕ → ℕ = issued_by p.issued in
-    let t = c.args.table in
-    let m : get_or c.loop-self.self.issued t 0 ≡ get_or p.issued t 0 + i.0 = i.4 t ∙ more_self f t i.0 in
-    let l : i.0 ≤ c.args.row + 1 - get_or p.issued t 0 = i.1 in
-    let e : i.0 ≡ c.args.row + 1 - get_or p.issued t 0 = omega (arith, c.loop-self-test.false) in
-    record {
-      written = subst (λ (k : ℕ). Put (codes_of (fill k t)) c.args.output.now p.count c.loop-self.self.count c.loop-self.output) e i.3;
-      issued = λ q. i.4 q ∙ ap (λ (k : ℕ). more f t k q) e;
-    }

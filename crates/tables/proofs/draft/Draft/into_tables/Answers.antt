@@ -1,6 +1,5 @@
-use Rattle.std.proofs.Common.{refl}
 use Rattle.tables.proofs.Goods.{good}
 use Rattle.tables.proofs.draft.Draft.into_tables.Goals as goal
 
-pub returns : goal.returns
-returns c = record { same = refl; good = good c.args.self.tables }
+pub returns-clause-good : goal.returns-clause-good
+returns-clause-good c = good c.args.self.tables

@@ -1,7 +1,9 @@
-use Rattle.std.proofs.Common.{◌≡◌, ℕ, ◌<◌, get_or}
-use Rattle.tables.specs.Rows.{empty}
-use Rattle.tables.specs.Contents.{contents}
+use Rattle.std.proofs.Common.{◌≡◌, ℕ, ◌<◌, map, length, get_or}
+use Rattle.tables.specs.Rows.{rows_of, empty}
 use Rattle.tables.proofs.tables.Tables.clear.Given as goal
 
 abbrev pub invariant-loop-table : goal.invariant-loop-table
-invariant-loop-table l = (k : ℕ) → k < l.table → get_or (contents l.self) k empty ≡ empty
+invariant-loop-table l = record {
+  four : length l.table-items ≡ 4;
+  emptied : (k : ℕ) → k < l.table-index → get_or (map rows_of l.table-items) k empty ≡ empty;
+}

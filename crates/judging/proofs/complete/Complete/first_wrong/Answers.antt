@@ -1,0 +1,47 @@
+use Rattle.std.proofs.Common.{◌∙◌, subst, inl, inr, arith, below_more}
+use Rattle.std.proofs.lemmas.Bool.{both_ways, cases_lt}
+use Rattle.tables.specs.Contents.{contents}
+use Rattle.tables.specs.Size.{unit}
+use Rattle.tables.specs.View.{reads_at}
+use Rattle.tables.proofs.Goods.{good}
+use Rattle.rules.specs.declared.sheet.Sheet.{Sheet}
+use Rattle.rules.specs.Waits.{Waits}
+use Rattle.judging.specs.Case.{Case, case}
+use Rattle.judging.specs.Values.{Right, Wrong}
+use Rattle.judging.proofs.Beyond.{past_reads}
+use Rattle.judging.proofs.complete.Complete.first_wrong.Goals as goal
+
+pub loop-n-preserved : goal.loop-n-preserved
+loop-n-preserved g c =
+    let C : Waits → Sheet g.row.K-Word.Denot → Case g.K.WordKind.Meaning = λ w x.
+    case w g.K.WordKind.meaning g.K.WordKind.starts g.K.WordKind.writtens (contents c.args.self.now.standing.tables.now) c.args.self.now.standing.order.now x.places.now in (
+      c.check_read.ensures.same ∙ c.loop-n.invariant.0,
+      λ w.
+          below_more (λ j. Right (C w c.args.sheet.now) j) c.loop-n.n (c.loop-n.invariant.1 w)
+          (subst (λ (x : Sheet g.row.K-Word.Denot). Right (C w x) c.loop-n.n) c.loop-n.invariant.0 (c.in_default.ensures.checked w)),
+    )
+
+pub returns-in-Some : goal.returns-in-Some
+returns-in-Some g c =
+    let C : Waits → Sheet g.row.K-Word.Denot → Case g.K.WordKind.Meaning = λ w x.
+    case w g.K.WordKind.meaning g.K.WordKind.starts g.K.WordKind.writtens (contents c.args.self.now.standing.tables.now) c.args.self.now.standing.order.now x.places.now in
+    record {
+      checked = λ w. (
+        subst (λ (x : Sheet g.row.K-Word.Denot). Wrong (C w x) c.loop-n.n c.in-Some.source) c.loop-n.invariant.0 (c.in-Some.ensures.checked w),
+        c.loop-n.invariant.1 w,
+      );
+      within = (omega arith, c.in-Some.ensures.within);
+      same = c.check_read.ensures.same ∙ c.loop-n.invariant.0;
+    }
+
+pub returns : goal.returns
+returns g c =
+    let t = c.args.self.now.standing.tables.now in
+    record {
+      checked = λ w n. elim (cases_lt n 128) [
+        | inl l ↦ c.loop-n.invariant.1 w n (omega arith)
+        | inr l ↦ λ s r _. absurd (both_ways (reads_at unit (contents t) n) (past_reads (contents t) (good t).tables n l) r)
+      ];
+      within = tt;
+      same = c.loop-n.invariant.0;
+    }

@@ -1,9 +1,0 @@
-use Rattle.std.proofs.Common.{ℕ, ◌<◌}
-use Rattle.tables.specs.Contents.{contents}
-use Rattle.tables.specs.Size.{unit}
-use Rattle.judging.specs.Searches.{Clear}
-use Rattle.judging.specs.Tests.{swap_bad}
-use Rattle.judging.proofs.swaps.first_swap.Given as goal
-
-abbrev pub invariant-loop-e : goal.invariant-loop-e
-invariant-loop-e l = (i : ℕ) → i < l.e → Clear (swap_bad unit (contents l.tables) l.standing.order.now i)
