@@ -1,9 +1,12 @@
 -- What is told of the reads of an order that passes, what an answer says of a case, and which case a record puts.
 use Rattle.std.specs.Prelude.{◌≡◌, ℕ, ◌+◌, true, false, List, [], ◌∷◌, ◌++◌, map, length, replicate, Ok, Err, vec_items, Option}
-use Rattle.tables.specs.Size.{unit, table, row}
+use Rattle.tables.specs.Size.{unit}
+use Rattle.tables.specs.LineIds.{line_id}
 use Rattle.tables.specs.Rows.{Rows}
 use Rattle.tables.specs.View.{copy_at}
 use Rattle.rules.specs.Waits.{Waits}
+use Rattle.rules.specs.declared.words.WordKind as word_kind
+use Rattle.rules.specs.declared.words.NumberWords.{NumberWords}
 use Rattle.model.specs.Program.{Program, program}
 use Rattle.model.specs.Trace.{ReadTrace}
 use Rattle.judging.specs.Case.{Case, case, Answered}
@@ -18,8 +21,7 @@ use Rattle.answers.specs.declared.text.Answer.TheVariants.{Refused, Broken, Pass
 
 -- the account of the read of line n: its line, the write that it should have, and the end of its trace
 pub record AccountOf (P : Program) (copy : ℕ → Option ℕ) (o : List ℕ) (n : ℕ) (a : Account) : Type 0 where
-  pub processor : a.processor ≡ table P.size n + 1
-  pub line : a.line ≡ row P.size n + 1
+  pub at : a.at ≡ line_id P.size n
   pub source : ReadsFrom P o n a.source
   pub reads : ℕ
   pub trace : ReadTrace P copy o n a.end reads
@@ -42,9 +44,13 @@ Answers c size w ts o (Refused e) = Answered c {T = Unit {0}} size (Err e)
 Answers c size w ts o (Broken b) = Answered c {T = Unit {0}} size (Ok (Err b))
 Answers c size w ts o (Passes xs) = Answered c {T = Unit {0}} size (Ok (Ok tt)) × AllAccounts w ts o (vec_items xs)
 
+-- number words: each means itself, every cell starts with 0, and a written number is the word
+abbrev pub number_words : word_kind.Ghosts NumberWords ℕ
+number_words = record { Meaning = ℕ; meaning = λ n. n; starts = λ _. 0; writtens = λ n _ _. n }
+
 -- the same of tables, an order and number words
 abbrev pub AnswersTo : Waits → List Rows → List ℕ → List ℕ → Answer → Type 0
-AnswersTo w ts o words = Answers (case w (λ (n : ℕ). n) (λ _. 0) (λ n _ _. n) ts o words) (length words) w ts o
+AnswersTo w ts o words = Answers (case w number_words ts o words) (length words) w ts o
 
 -- an answer to bytes: what is amiss with them as a record, or what the judge answers to the case that the record puts under its
 -- rule, with its claims as the words at the places of its lines

@@ -1,8 +1,9 @@
 -- How an answer is printed: each line with a newline at its end.
-use Rattle.std.specs.Prelude.{ℕ, List, [], ◌∷◌, ◌++◌, Some, None, Ok, Err, vec_items, codes, decimal, Option}
+use Rattle.std.specs.Prelude.{ℕ, List, [], ◌∷◌, ◌++◌, Some, None, Ok, Err, vec_items, codes, Option}
 use Rattle.std.specs.List.{flat_map}
 use Rattle.faults.specs.Text.{fault_text}
 use Rattle.tables.specs.declared.event.Event.{Event}
+use Rattle.tables.specs.LineIds.{line_id_text}
 use Rattle.tables.specs.Events.{event_text}
 use Rattle.rules.specs.Text.{origin_text}
 use Rattle.model.specs.Text.{verdict_text}
@@ -17,7 +18,7 @@ source_text (Some e) = event_text e
 -- as: 2.2 from 1.1w by 1.1
 abbrev pub account_text : Account → List ℕ
 account_text a =
-    decimal a.processor ++ (codes "." ++ (decimal a.line ++ (codes " from " ++ (source_text a.source ++ (codes " by " ++ origin_text a.end)))))
+    line_id_text a.at ++ (codes " from " ++ (source_text a.source ++ (codes " by " ++ origin_text a.end)))
 
 abbrev pub newline : List ℕ
 newline = 10 ∷ []

@@ -1,26 +1,30 @@
 // Reads a record, judges it, and tells of each read.
-ghost use Rattle.std.specs.Prelude.{◌≡◌, ℕ, ◌<◌, ◌≤◌, true, false, IfOk, vec_capacity, MatchOption};
+ghost use Rattle.std.specs.Prelude.{◌≡◌, ℕ, ◌<◌, ◌≤◌, true, false, length, IfOk, vec_capacity, MatchOption};
 ghost use Rattle.tables.specs.Size.{unit};
 ghost use Rattle.tables.specs.Contents.{contents};
 ghost use Rattle.tables.specs.View.{reads_at, copy_at};
 ghost use Rattle.rules.specs.Waits.{Waits};
 ghost use Rattle.answers.specs.Ruling.{waits_of};
 ghost use Rattle.model.specs.Program.{program};
-ghost use Rattle.judging.specs.Outcomes.{rows_of, order_of};
-ghost use Rattle.answers.specs.Accounts.{AccountOf, AllAccounts, AnswersTo, AnswersBytes};
+ghost use Rattle.judging.specs.Case.{case, Answered};
+ghost use Rattle.judging.specs.Outcomes.{IfPassed, rows_of, order_of};
+ghost use Rattle.answers.specs.Accounts.{number_words, AccountOf, AllAccounts, AnswersBytes};
 
 use crate::text::{Account, Answer};
+use faults::Fault;
 use judging::passing::Passing;
-use judging::passing::asks::pass;
+use judging::proposal::Proposal;
+use model::verdict::Verdict;
 use record::read;
 use rules::rule::Rule;
 use rules::sheet::Sheet;
-use rules::wait::{Strong, TotalStoreOrder, WaitRule};
+use rules::wait::{Strong, TotalStoreOrder};
 use rules::words::NumberWords;
 use std::alloc::{AllocError, Global};
 use tables::draft::Draft;
+use tables::line_id::LineId;
 use tables::tables::Tables;
-use tables::{EVENTS, LINES, PLACES};
+use tables::{EVENTS, PLACES};
 
 /// The answer to a record: its order judged with number words under the rule that it names, and told of each read if it
 /// passes. Only want of memory, before anything is read, is no answer.
@@ -29,63 +33,51 @@ pub fn answer(heap: Global, bytes: &[u8]) -> Result<Answer, AllocError>
 {
     let draft = Draft::new(heap)?;
     let accounts = Vec::with_capacity(heap, PLACES)?;
-    Ok(answer_in(draft, accounts, bytes))
-}
-
-// The same with all room at hand.
-fn answer_in(draft: Draft, accounts: Vec<Account>, bytes: &[u8]) -> Answer
-    requires { 128 ≤ vec_capacity accounts }
-    ensures { AnswersBytes bytes.now result }
-{
     let mut words = [0; PLACES];
     let mut codes = [0; EVENTS];
     let mut sheet = Sheet::over(&mut words);
     match read(draft, bytes, &mut sheet, &mut codes) {
-        Err(fault) => Answer::Refused(fault),
-        Ok(contents) => judged_by(
-            contents.rule,
-            contents.draft.tables(),
-            &codes[0..contents.count],
-            &mut sheet,
-            accounts,
-        ),
+        Err(fault) => Ok(Answer::Refused(fault)),
+        Ok(contents) => {
+            // A count beside the codes, since `read` takes a slice of any length and tells how much of it the order is.
+            let order = &codes[..contents.count];
+            match judged_by(contents.rule, contents.draft.tables(), order, &mut sheet) {
+                Err(fault) => Ok(Answer::Refused(fault)),
+                Ok(Err(breach)) => Ok(Answer::Broken(breach)),
+                Ok(Ok(passing)) => Ok(Answer::Passes(told(&passing, accounts))),
+            }
+        }
     }
 }
 
-// The answer for what was read, under the rule that the record names.
+// What the judge says of an order under the rule that a record names.
 fn judged_by<'a>(
     rule: Rule,
     tables: &'a Tables,
     order: &'a [u32],
     sheet: &mut Sheet<u32>,
-    accounts: Vec<Account>,
-) -> Answer
-    requires { 128 ≤ vec_capacity accounts }
-    ensures answers { AnswersTo (waits_of rule) (contents tables.now) order.now sheet.old.places.now result }
-    ensures named { sheet.new.places.ghost_name ≡ sheet.old.places.ghost_name }
+) -> Result<Verdict<Passing<'a>>, Fault>
+    ensures answer { Answered (case (waits_of rule) number_words (contents tables.now) order.now sheet.old.places.now) (length sheet.old.places.now) result }
+    ensures passed { IfPassed result (λ p. (rows_of p ≡ contents tables.now) × (order_of p ≡ order.now)) }
+    ensures same { sheet.new ≡ sheet.old }
 {
+    let kind = &NumberWords;
+    // Two arms, since each rule is a type.
     match rule {
-        Rule::Strong => judged(tables, &Strong, order, sheet, accounts),
-        Rule::TotalStoreOrder => judged(tables, &TotalStoreOrder, order, sheet, accounts),
-    }
-}
-
-// The answer for what the judge says of it.
-fn judged<'a, R: WaitRule>(
-    tables: &'a Tables,
-    rule: &R,
-    order: &'a [u32],
-    sheet: &mut Sheet<u32>,
-    accounts: Vec<Account>,
-) -> Answer
-    requires { 128 ≤ vec_capacity accounts }
-    ensures answers { AnswersTo R.WaitRule.waits (contents tables.now) order.now sheet.old.places.now result }
-    ensures named { sheet.new.places.ghost_name ≡ sheet.old.places.ghost_name }
-{
-    match pass(tables, rule, &NumberWords, order, sheet) {
-        Err(fault) => Answer::Refused(fault),
-        Ok(Err(breach)) => Answer::Broken(breach),
-        Ok(Ok(passing)) => Answer::Passes(told(&passing, accounts)),
+        Rule::Strong => Proposal {
+            tables,
+            rule: &Strong,
+            kind,
+            order,
+        }
+        .pass(sheet),
+        Rule::TotalStoreOrder => Proposal {
+            tables,
+            rule: &TotalStoreOrder,
+            kind,
+            order,
+        }
+        .pass(sheet),
     }
 }
 
@@ -114,8 +106,7 @@ fn told_of(passing: &Passing, place: usize) -> Option<Account>
     let source = passing.source(place)?;
     let trace = passing.trace(place)?;
     Some(Account {
-        processor: (place / LINES + 1) as u8,
-        line: (place % LINES + 1) as u8,
+        at: LineId::at(place).unwrap(),
         source,
         end: trace.end,
     })

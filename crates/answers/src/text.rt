@@ -9,17 +9,18 @@ use model::verdict::Breach;
 use rules::words::Origin;
 use std::fmt;
 use tables::event::Event;
+use tables::line_id::LineId;
 
-/// What is told of a read: the write whose word it should have, if there is one, and the end of its trace.
+/// What is told of the read of a line: the write whose word it should have, if there is one, and the end of its trace.
 #[derive(Clone, Copy)]
 pub struct Account {
-    pub processor: u8,
-    pub line: u8,
+    pub at: LineId,
     pub source: Option<Event>,
     pub end: Origin,
 }
 
 /// The answer to a record: it is refused, its order breaks an axiom, or it passes, with its reads in table order.
+// Not a result in a result, since it has a `Display` of its own.
 #[derive(Drop)]
 pub enum Answer {
     Refused(Fault),
@@ -32,20 +33,15 @@ impl fmt::Display for Account {
     ghost output = { λ a. Some (account_text a) };
 
     fn fmt<W: fmt::Write>(&self, f: &mut fmt::Formatter<W>) -> fmt::Result {
-        let Account {
-            processor,
-            line,
-            source,
-            end,
-        } = self;
+        let Account { at, source, end } = self;
         match source {
-            Some(write) => write!(f, "{processor}.{line} from {write} by {end}"),
-            None => write!(f, "{processor}.{line} from start by {end}"),
+            Some(write) => write!(f, "{at} from {write} by {end}"),
+            None => write!(f, "{at} from start by {end}"),
         }
     }
 }
 
-// A line for each read.
+// A line for each read. A loop, since with `try_for_each` the proof of what is written to `f` did not close.
 fn show_all<W: fmt::Write>(accounts: &[Account], f: &mut fmt::Formatter<W>) -> fmt::Result
     ensures { WritesOnOk W.Write.write_str_gives f.old result (flat_map line_text accounts.now) f.new }
 {

@@ -132,6 +132,7 @@ impl Fault {
         }
     }
 
+    // No option: a place is printed for every fault, and is 0 for the two that can arise in one place only.
     /// Where it arises.
     pub fn place(self) -> usize
         ensures { result ≡ place_of self }

@@ -40,9 +40,6 @@ module _ (ts : List Rows) (four : length ts ≡ 4) where
   pub reads_low : (n : ℕ) → reads_at unit ts n ≡ true → n < 128
   reads_low n h = elim (cases_lt n 128) [ inl l ↦ l | inr l ↦ absurd (both_ways (reads_at unit ts n) (past_reads n l) h) ]
 
-  pub writes_low : (n : ℕ) → writes_at unit ts n ≡ true → n < 128
-  writes_low n h = elim (cases_lt n 128) [ inl l ↦ l | inr l ↦ absurd (both_ways (writes_at unit ts n) (past_writes n l) h) ]
-
   pub event_low : (e : ℕ) → is_event unit ts e ≡ true → e < 256
   event_low e h = elim (cases_lt e 256) [
     | inl l ↦ l

@@ -8,6 +8,7 @@ use Rattle.tables.specs.Size.{unit}
 use Rattle.tables.specs.Rows.{Rows}
 use Rattle.tables.specs.View.{is_event}
 use Rattle.rules.specs.Waits.{Waits}
+use Rattle.rules.specs.declared.words.WordKind as word_kind
 use Rattle.model.specs.Program.{Program, program}
 use Rattle.model.specs.Orders.{Once, AtMostOnce, Stands}
 use Rattle.model.specs.Axioms.{OrderKept, OrderBroken, read_not_once, write_repeated, TerminationKept, TerminationBroken, LoadOpKept, LoadOpBroken, WaitKept, WaitBroken, AtomicityKept, AtomicityBroken, Meets}
@@ -75,18 +76,18 @@ module _ {M : Type 0} (P : Program) (stored : (ℕ → M) → ℕ → M) (start 
   meets_passes (Ok t) j k = refl
   meets_passes (Err b) j k = absurd (breaks_kept b.axiom _ _ j.1 k)
 
-module _ {W M : Type 0} (w : Waits) (meaning : W → M) (start : ℕ → M) (writtens : ℕ → ℕ → ℕ → M) (ts : List Rows) (o : List ℕ) (xs : List W) where
-  abbrev C : Case M
-  C = case w meaning start writtens ts o xs
+module _ {K W : Type 0} (w : Waits) (k : word_kind.Ghosts K W) (ts : List Rows) (o : List ℕ) (xs : List W) where
+  abbrev C : Case k.Meaning
+  C = case w k ts o xs
 
   judged_as :
       (a : Axiom) (c : ℕ) (d : Option ℕ) (v : Breach) → (1 < number_of a → OrderKept (program unit w ts) o)
       → (2 < number_of a → TerminationKept (program unit w ts) o) → (3 < number_of a → LoadOpKept (program unit w ts) o)
       → (4 < number_of a → WaitKept (program unit w ts) o) → (5 < number_of a → AtomicityKept (program unit w ts) o) → number_of a ≤ 6
-      → Names (program unit w ts) C.stored start o C.words a c d → Tells unit a c d v → VerdictOn C {T = Unit {0}} (Err v)
+      → Names (program unit w ts) C.stored C.start o C.words a c d → Tells unit a c d v → VerdictOn C {T = Unit {0}} (Err v)
   judged_as a c d v k1 k2 k3 k4 k5 m n t =
-      told (program unit w ts) C.stored start o C.words a c d v t
-      (λ b h. below (program unit w ts) C.stored start o C.words (number_of a) k1 k2 k3 k4 k5 b h m) n
+      told (program unit w ts) C.stored C.start o C.words a c d v t
+      (λ b h. below (program unit w ts) C.stored C.start o C.words (number_of a) k1 k2 k3 k4 k5 b h m) n
 
   pub broken_order :
       (e : ℕ) → order_bad unit ts o e ≡ true → ClearBelow (order_bad unit ts o) e

@@ -7,6 +7,5 @@ pub mod Choosing
 pub mod Testing
 pub mod Lowest
 pub mod Deciding
-pub mod Asking
 pub mod Tracing
 pub mod Passings

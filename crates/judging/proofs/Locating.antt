@@ -1,10 +1,12 @@
 -- Places in an order by position, and the table of the events' stands, filled from the order's start.
-use Rattle.std.proofs.Common.{◌≡◌, ℕ, zero, suc, ◌+◌, ◌<◌, ◌≤◌, min, cond, eqb, ltb, List, [], ◌∷◌, length, get_or, take, set, sym, ap, ◌∙◌, subst, inl, inr, arith, get_or-set_other, get_or-set_same}
+use Rattle.std.proofs.Common.{◌≡◌, ℕ, ◌+◌, ◌<◌, ◌≤◌, min, cond, eqb, ltb, List, [], ◌∷◌, length, get_or, take, set, sym, ap, ◌∙◌, subst, inl, inr, arith, get_or-set_other, get_or-set_same}
 use Rattle.std.proofs.lemmas.List.{take_more}
-use Rattle.std.proofs.lemmas.Bool.{cases_Bool, cases_eq, cond-true, cond-false, eq-eqb, ne_eqb, eqb-true}
+use Rattle.std.proofs.lemmas.Bool.{cases_eq, cond-true, cond-false, eq-eqb, ne_eqb}
 use Rattle.std.proofs.lemmas.Bool.Decides.{nat_tests}
+use Rattle.model.proofs.PlacedAxioms.{at_place as place_at, at_one as one_at, at_after}
 use Rattle.model.proofs.Positions.{place, place_le, times, times_snoc, Inside}
 use Rattle.judging.specs.Standings.{nowhere}
+use Rattle.judging.proofs.Listing.{get_at, at_get}
 use Rattle.judging.specs.declared.standing.Stand.{Stand}
 
 -- the first position below n where an event stands, or the order's length where there is none
@@ -17,26 +19,15 @@ times_le (x ∷ o) e = let r = times_le o e in grind (arith, nat_tests)
 
 -- what stands at a position of the order
 pub at_place : (o : List ℕ) (e d : ℕ) → Inside o e → get_or o (place o e) d ≡ e
-at_place [] e d h = let z : ⊥ = omega arith in absurd z
-at_place (x ∷ o) e d h = elim (cases_Bool (eqb x e)) [
-  | inl q ↦ rw q (eqb-true x e q)
-  | inr q ↦ rw q (at_place o e d (let z : suc (place o e) < suc (length o) = rw q at h in omega arith))
-]
-
-pub at_after : (o : List ℕ) (i d : ℕ) → i < length o → (place o (get_or o i d) ≤ i) × (1 ≤ times o (get_or o i d))
-at_after [] i d h = let z : ⊥ = omega arith in absurd z
-at_after (x ∷ o) zero d h = grind (arith, nat_tests)
-at_after (x ∷ o) (suc i) d h = let r = at_after o i d (omega arith) in grind (arith, nat_tests)
+at_place o e d h = (at_get o (place o e) e d (place_at o e h)).1
 
 pub at_one : (o : List ℕ) (i d : ℕ) → i < length o → times o (get_or o i d) ≤ 1 → place o (get_or o i d) ≡ i
-at_one [] i d h t = let z : ⊥ = omega arith in absurd z
-at_one (x ∷ o) zero d h t = grind (arith, nat_tests)
-at_one (x ∷ o) (suc i) d h t = let s = at_after o i d (omega arith) in let r = at_one o i d (omega arith) in grind (arith, nat_tests)
+at_one o i d h t = sym (one_at o i (get_or o i d) t (get_at o i d h))
 
 -- how the first place so far, or the order's length, goes on with the event at position i
 place_there : (o : List ℕ) (i e : ℕ) → i < length o → get_or o i 0 ≡ e → min (place_below o i e) i ≡ place_below o (i + 1) e
 place_there o i e h q =
-    let a : place o e ≤ i = rw (← q) (at_after o i 0 h).0 in
+    let a : place o e ≤ i = rw (← q) (at_after o i (get_or o i 0) (get_at o i 0 h)).0 in
     grind (arith, nat_tests)
 
 place_elsewhere : (o : List ℕ) (i e : ℕ) → i < length o → (get_or o i 0 ≡ e → ⊥) → place_below o i e ≡ place_below o (i + 1) e

@@ -1,9 +1,8 @@
 -- From what a search finds to the lowest by a test, and from there to the lowest of a relation.
-use Rattle.std.proofs.Common.{◌≡◌, ℕ, ◌<◌, ◌≤◌, Bool, true, false, Decides, List, length, Some, None, Option, MatchOption, inl, inr, arith}
+use Rattle.std.proofs.Common.{◌≡◌, ℕ, ◌<◌, ◌≤◌, Bool, true, false, Decides, Some, None, Option, MatchOption, inl, inr, arith}
 use Rattle.std.proofs.lemmas.Bool.{both_ways, cases_lt}
-use Rattle.std.specs.List.{AllWithin, HoldsAt}
 use Rattle.model.specs.Naming.{by_code, Least, LeastPair}
-use Rattle.judging.specs.Searches.{Clear, ClearBelow, Lowest, LowestPair, FirstRow, FirstNot}
+use Rattle.judging.specs.Searches.{Clear, ClearBelow, Lowest, LowestPair, FirstRow}
 
 -- what `find` over a range gives, where nothing outside the range passes
 pub lowest_from :
@@ -20,15 +19,6 @@ lowest_from b low high Yes No below past passes fails (Some e) h = (
   passes e h.0 h.1 h.2,
   λ j u. elim (cases_lt j low) [ inl l ↦ below j l | inr l ↦ fails j l (let v = h.1 in omega arith) (h.3 j l u) ],
 )
-
--- what `position` gives, where the test is that a number does not pass
-pub first_not_from :
-    (b : ℕ → Bool) (o : List ℕ) (r : Option ℕ)
-    → MatchOption r (AllWithin (λ x. b x ≡ true) o 0 (length o))
-    (λ i. (i < length o) × HoldsAt (λ x. b x ≡ false) o i × AllWithin (λ x. b x ≡ true) o 0 i)
-    → FirstNot b o r
-first_not_from b o None h = λ i l. h i 0 (omega arith) l
-first_not_from b o (Some i) h = (h.0, h.1 0, λ j l. h.2 j 0 (omega arith) l)
 
 -- what a search by rows gives, where a row past the last is clear
 pub lowest_pair_from :

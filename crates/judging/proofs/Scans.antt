@@ -45,9 +45,6 @@ module _ (ts : List Rows) (o : List ℕ) (e : ℕ) where
   unfolding swap_bad
   swap_none h f = and_left (swaps_here unit ts e) _ h
 
-  pub swap_even : swaps_here unit ts e ≡ true → e % 2 ≡ 0
-  swap_even h = eqb-true (e % 2) 0 (and_parts (eqb (e % 2) 0) _ (and_parts (is_read unit ts e) _ h).0).0
-
   pub swap_here : (f : ℕ) → swaps_here unit ts e ≡ true → writes_between unit ts o e f ≡ true → swap_bad unit ts o e f ≡ true
   unfolding swap_bad
   swap_here f a b = and_from (swaps_here unit ts e) _ a b

@@ -1,6 +1,6 @@
 -- Each test decides its relation: Order and Termination always, the others where each event stands once.
-use Rattle.std.proofs.Common.{◌≡◌, ℕ, suc, ◌/◌, ◌<◌, ◌≤◌, true, false, not, ◌&&◌, eqb, ltb, leb, ◌⊎◌, List, length, Decides, sym, refl, ap, ◌∙◌, subst, inl, inr, arith}
-use Rattle.std.proofs.lemmas.Bool.{both_ways, cases_lt, cases_eq, leb-true, le-leb, or_left, or_right, and_from, ne_eqb, eq-eqb, lt-ltb, not-true, not_from_false}
+use Rattle.std.proofs.Common.{◌≡◌, ℕ, suc, ◌/◌, ◌%◌, ◌<◌, ◌≤◌, true, false, not, ◌&&◌, eqb, ltb, leb, ◌⊎◌, List, length, Decides, sym, refl, ap, ◌∙◌, subst, inl, inr, arith}
+use Rattle.std.proofs.lemmas.Bool.{both_ways, cases_lt, cases_eq, leb-true, le-leb, or_left, or_right, and_from, and_parts, ne_eqb, eq-eqb, lt-ltb, not-true, not_from_false}
 use Rattle.std.proofs.lemmas.Bool.Decides.{Decides-and, Decides-or, Decides-eqb, Decides-ltb, Decides-like, Decides-not}
 use Rattle.tables.specs.Size.{Size, table, rd, wr}
 use Rattle.tables.specs.Rows.{Rows}
@@ -232,18 +232,10 @@ module _ (z : Size) (w : Waits) (ts : List Rows) (o : List ℕ) where
     odd e h = let x = (writes_is z ts e).0 h in let q = x.2 in omega arith
 
     reads_half : (e : ℕ) → is_read z ts e ≡ true → reads_at z ts (e / 2) ≡ true
-    reads_half e h =
-        let x = (reads_is z ts e).0 h in
-        let q = x.2 in
-        let a : x.0 ≡ e / 2 = omega arith in
-        subst (λ (k : ℕ). reads_at z ts k ≡ true) a x.1
+    reads_half e h = (and_parts (eqb (e % 2) 0) _ h).1
 
     writes_half : (e : ℕ) → is_write z ts e ≡ true → writes_at z ts (e / 2) ≡ true
-    writes_half e h =
-        let x = (writes_is z ts e).0 h in
-        let q = x.2 in
-        let a : x.0 ≡ e / 2 = omega arith in
-        subst (λ (k : ℕ). writes_at z ts k ≡ true) a x.1
+    writes_half e h = (and_parts (eqb (e % 2) 1) _ h).1
 
     to_awaits : (e f : ℕ) → AwaitsCodes e f → Awaits (program z w ts) e f
     to_awaits e f h = elim h.3 [

@@ -1,23 +1,21 @@
 -- Which line is asked about, and when that is refused.
-use Rattle.std.specs.Prelude.{ℕ, ◌-◌, cond, List, Some, None, Option, nat_lt, slice_index_or}
+use Rattle.std.specs.Prelude.{ℕ, ◌-◌, cond, List, Some, None, Option}
 use Rattle.faults.specs.declared.Fault.{Fault}
-use Rattle.faults.specs.declared.Fault.TheVariants.{ProcessorUnknown, LineUnknown, NothingRead}
-use Rattle.tables.specs.declared.line.Line.{Line}
+use Rattle.faults.specs.declared.Fault.TheVariants.{NothingRead}
 use Rattle.tables.specs.Size.{unit, number}
-use Rattle.tables.specs.Lines.{nth, line_reads}
-use Rattle.tables.specs.Rows.{Rows, empty}
+use Rattle.tables.specs.Rows.{Rows}
+use Rattle.tables.specs.Places.{line_refused}
+use Rattle.tables.specs.View.{reads_at}
 
 -- line l of processor p, both counted from 1, by its number
 abbrev pub asked_line : ℕ → ℕ → ℕ
 asked_line p l = number unit (p - 1) (l - 1)
 
-abbrev pub reading_refused : ℕ → Option Line → Option Fault
-reading_refused l None = Some (LineUnknown l)
-reading_refused l (Some x) = cond (line_reads x) None (Some (NothingRead l))
+-- a refusal if there is one, and else what the next test says
+abbrev pub or_next : Option Fault → Option Fault → Option Fault
+or_next None r = r
+or_next (Some e) r = Some e
 
 -- the first test that fails, if one does: the processor, the line in its table, and that it reads
 abbrev pub ask_refused : List Rows → ℕ → ℕ → Option Fault
-ask_refused ts p l =
-    cond (nat_lt p 1) (Some ProcessorUnknown)
-    (cond (nat_lt unit.tables p) (Some ProcessorUnknown)
-    (cond (nat_lt l 1) (Some (LineUnknown l)) (reading_refused l (nth (slice_index_or ts (p - 1) empty).lines (l - 1)))))
+ask_refused ts p l = or_next (line_refused ts p l) (cond (reads_at unit ts (asked_line p l)) None (Some (NothingRead l)))

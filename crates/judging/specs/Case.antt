@@ -4,13 +4,16 @@ use Rattle.faults.specs.declared.Fault.{Fault}
 use Rattle.faults.specs.declared.Fault.TheVariants.{SheetShort, EventLacking}
 use Rattle.tables.specs.Size.{unit, places}
 use Rattle.tables.specs.Rows.{Rows}
+use Rattle.tables.specs.Contents.{contents}
 use Rattle.rules.specs.Waits.{Waits}
-use Rattle.model.specs.Program.{Program, program, stored_at}
+use Rattle.rules.specs.declared.words.WordKind as word_kind
+use Rattle.model.specs.Program.{Program, program, stored_at, words_of}
 use Rattle.model.specs.Orders.{At, Event, Listed}
 use Rattle.model.specs.Axioms.{Meets}
 use Rattle.model.specs.Verdicts.{Judged}
 use Rattle.model.specs.declared.verdict.Breach.{Breach}
-use Rattle.judging.specs.Words.{kind_of, words_on}
+use Rattle.judging.specs.declared.proposal.Proposal.{Proposal}
+use Rattle.judging.specs.Words.{words_on}
 
 -- lines under a rule, an order of their events, and the words that they read, by meaning
 pub record Case (M : Type 0) : Type 0 where
@@ -21,14 +24,18 @@ pub record Case (M : Type 0) : Type 0 where
   pub words : ℕ → M
 
 -- the case of a rule, a kind of word, the contents of tables, an order of codes and a sheet
-abbrev pub case : {W M : Type 0} → Waits → (W → M) → (ℕ → M) → (ℕ → ℕ → ℕ → M) → List Rows → List ℕ → List W → Case M
-case w meaning starts writtens ts o xs = record {
+abbrev pub case : {K W : Type 0} → Waits → (k : word_kind.Ghosts K W) → List Rows → List ℕ → List W → Case k.Meaning
+case w k ts o xs = record {
   program = program unit w ts;
-  stored = stored_at (kind_of starts writtens) unit ts;
-  start = starts;
+  stored = stored_at (words_of k) unit ts;
+  start = k.starts;
   order = o;
-  words = words_on meaning starts xs;
+  words = words_on k xs;
 }
+
+-- the case of what is proposed, with a sheet
+abbrev pub proposed : {R K W : Type 0} → Waits → (k : word_kind.Ghosts K W) → Proposal R K → List W → Case k.Meaning
+proposed w k p xs = case w k (contents p.tables.now) p.order.now xs
 
 -- the event at position i is the first that the tables lack
 pub record Lacks (P : Program) (o : List ℕ) (i : ℕ) : Type 0 where

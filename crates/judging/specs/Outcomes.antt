@@ -8,14 +8,15 @@ use Rattle.tables.specs.Contents.{contents}
 use Rattle.tables.specs.View.{copy_at}
 use Rattle.rules.specs.Waits.{Waits}
 use Rattle.rules.specs.declared.words.Origin.{Origin}
-use Rattle.model.specs.Program.{Program, program, written_at}
+use Rattle.rules.specs.declared.words.WordKind as word_kind
+use Rattle.model.specs.Program.{Program, program, written_at, words_of}
 use Rattle.model.specs.Axioms.{Should}
 use Rattle.model.specs.Verdicts.{code_if, write_of, OfUnitIf}
 use Rattle.model.specs.Trace.{ReadTrace, found, reads_in}
 use Rattle.model.specs.declared.verdict.Breach.{Breach}
 use Rattle.judging.specs.declared.passing.Passing.{Passing}
 use Rattle.judging.specs.declared.passing.Trace.{Trace}
-use Rattle.judging.specs.Words.{kind_of, words_on}
+use Rattle.judging.specs.Words.{words_on}
 
 -- what holds of a result where the order passed
 abbrev pub IfPassed : {T : Type 0} → Result (Result T Breach) Fault → (T → Type 0) → Type 0
@@ -44,6 +45,6 @@ pub record TracedTo {M : Type 0} (P : Program) (copy : ℕ → Option ℕ) (writ
   pub finds : found P written start t.end ≡ words n
 
 -- the same, of the read of line n in the tables, an order and a sheet
-abbrev pub TracedOn : {W M : Type 0} → Waits → (W → M) → (ℕ → M) → (ℕ → ℕ → ℕ → M) → List Rows → List ℕ → List W → ℕ → Trace → Type 0
-TracedOn w meaning starts writtens ts o xs n t =
-    TracedTo (program unit w ts) (copy_at unit ts) (written_at (kind_of starts writtens) unit ts) starts o (words_on meaning starts xs) n t
+abbrev pub TracedOn : {K W : Type 0} → Waits → (k : word_kind.Ghosts K W) → List Rows → List ℕ → List W → ℕ → Trace → Type 0
+TracedOn w k ts o xs n t =
+    TracedTo (program unit w ts) (copy_at unit ts) (written_at (words_of k) unit ts) k.starts o (words_on k xs) n t

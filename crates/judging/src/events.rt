@@ -20,6 +20,8 @@ pub(crate) fn first_lacking(tables: &Tables, order: &[u32]) -> Option<usize>
 }
 
 impl<'a> Standing<'a> {
+    // A code is a plain number, bounded in each contract: it is counted and computed, and a type of its own would be taken apart at
+    // each step.
     // Whether the event breaks Order.
     fn breaks_order(&self, e: usize) -> bool
         requires { e < 256 }

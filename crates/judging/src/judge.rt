@@ -2,11 +2,12 @@
 ghost use Rattle.std.specs.Prelude.{◌≡◌, ◌<◌, length};
 ghost use Rattle.tables.specs.Contents.{contents};
 ghost use Rattle.tables.specs.Size.{unit};
-ghost use Rattle.judging.specs.Case.{case, VerdictOn, Answered, PassesAll};
+ghost use Rattle.judging.specs.Case.{case, proposed, VerdictOn, Answered, PassesAll};
 
 use crate::complete::Complete;
 use crate::events::first_lacking;
 use crate::naming::{broken, write_of};
+use crate::proposal::Proposal;
 use crate::standing::Standing;
 use faults::Fault;
 use model::verdict::{Axiom, Verdict};
@@ -24,9 +25,8 @@ pub(crate) fn weigh<R: WaitRule, K: WordKind>(
     standing: Standing,
     sheet: &mut Sheet<K::Word>,
 ) -> Verdict
-    ensures judged { VerdictOn (case R.WaitRule.waits K.WordKind.meaning K.WordKind.starts K.WordKind.writtens (contents standing.entry.tables.now) standing.entry.order.now sheet.old.places.now) result }
-    ensures same { sheet.new.places.now ≡ sheet.old.places.now }
-    ensures named { sheet.new.places.ghost_name ≡ sheet.old.places.ghost_name }
+    ensures judged { VerdictOn (case R.WaitRule.waits K.WordKind (contents standing.entry.tables.now) standing.entry.order.now sheet.old.places.now) result }
+    ensures same { sheet.new ≡ sheet.old }
 {
     if let Some(e) = standing.first_disorder() {
         return Err(broken(Axiom::Order, e, None));
@@ -50,27 +50,22 @@ pub(crate) fn weigh<R: WaitRule, K: WordKind>(
     Ok(())
 }
 
-/// Judges an order with the words on a sheet: that it passes, or the lowest axiom that it breaks and the events.
-/// Refuses a sheet that is too short, and else an order with an event that the tables lack.
-pub fn judge<R: WaitRule, K: WordKind>(
-    tables: &Tables,
-    rule: &R,
-    kind: &K,
-    order: &[u32],
-    sheet: &mut Sheet<K::Word>,
-) -> Result<Verdict, Fault>
-    ensures answer { Answered (case R.WaitRule.waits K.WordKind.meaning K.WordKind.starts K.WordKind.writtens (contents tables.now) order.now sheet.old.places.now) (length sheet.old.places.now) result }
-    ensures exactly { PassesAll (case R.WaitRule.waits K.WordKind.meaning K.WordKind.starts K.WordKind.writtens (contents tables.now) order.now sheet.old.places.now) (length sheet.old.places.now) result }
-    ensures same { sheet.new.places.now ≡ sheet.old.places.now }
-    ensures named { sheet.new.places.ghost_name ≡ sheet.old.places.ghost_name }
-{
-    let size = sheet.size();
-    if size < PLACES {
-        return Err(Fault::SheetShort(size));
+impl<R: WaitRule, K: WordKind> Proposal<'_, '_, R, K> {
+    /// Judges an order with the words on a sheet: that it passes, or the lowest axiom that it breaks and the events.
+    /// Refuses a sheet that is too short, and else an order with an event that the tables lack.
+    pub fn judge(&self, sheet: &mut Sheet<K::Word>) -> Result<Verdict, Fault>
+        ensures answer { Answered (proposed R.WaitRule.waits K.WordKind self.now sheet.old.places.now) (length sheet.old.places.now) result }
+        ensures exactly { PassesAll (proposed R.WaitRule.waits K.WordKind self.now sheet.old.places.now) (length sheet.old.places.now) result }
+        ensures same { sheet.new ≡ sheet.old }
+    {
+        let size = sheet.size();
+        if size < PLACES {
+            return Err(Fault::SheetShort(size));
+        }
+        if let Some(i) = first_lacking(self.tables, self.order) {
+            return Err(Fault::EventLacking(i));
+        }
+        let standing = Standing::of(self.tables, self.order);
+        Ok(weigh(self.rule, self.kind, standing, sheet))
     }
-    if let Some(i) = first_lacking(tables, order) {
-        return Err(Fault::EventLacking(i));
-    }
-    let standing = Standing::of(tables, order);
-    Ok(weigh(rule, kind, standing, sheet))
 }

@@ -4,13 +4,14 @@
 
 mod complete;
 mod events;
-pub mod judge;
+mod judge;
 mod naming;
 mod pairs;
 pub mod passing;
+pub mod proposal;
 mod rows;
 mod sources;
 mod standing;
 mod swaps;
-pub mod trace;
+mod trace;
 mod values;

@@ -15,6 +15,7 @@ fn event_of(code: usize) -> Event
     ensures inside { OfUnit unit result }
     ensures coded { code_of unit result ≡ code }
 {
+    // A match, since for `unwrap` the proof did not close.
     match Event::try_from(code as u32) {
         Ok(event) => event,
         Err(_) => unreachable(),

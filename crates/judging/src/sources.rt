@@ -48,7 +48,7 @@ impl<'a> Complete<'a> {
         requires { (Within best) × (m < 128) }
         ensures { Later self.now.standing.order.now best m result }
     {
-        // `is_none_or` tells the proof nothing of what a closure over the standing returns.
+        // A match, since with `is_none_or` the proof did not close.
         match best {
             None => true,
             Some(b) => self.write_place(b) < self.write_place(m),

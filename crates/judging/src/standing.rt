@@ -28,7 +28,7 @@ pub(crate) struct Standing<'a> {
 }
 
 impl<'a> Standing<'a> {
-    /// Counts where and how often each event stands in an order of events of the tables.
+    /// Notes where and how often each event stands in an order of events of the tables.
     pub(crate) fn of(tables: &'a Tables, order: &'a [u32]) -> Standing<'a>
         requires { AllBelow (is_event unit (contents tables.now)) order.now (length order.now) }
         ensures of_tables { result.tables.now ≡ tables.now }

@@ -15,6 +15,7 @@ impl<'a> Standing<'a> {
         requires { e + 1 < 256 }
         ensures { result ≡ true → Clear (swap_bad unit (contents self.now.tables.now) self.now.order.now e) }
     {
+        // By positions: a slice would have to begin before it ends, which an order need not keep to.
         (self.stands[e].place..self.stands[e + 1].place).all(|i| self.order[i] % 2 == 0)
     }
 

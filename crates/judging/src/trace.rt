@@ -9,21 +9,21 @@ ghost use Rattle.model.specs.Program.{program};
 ghost use Rattle.model.specs.Trace.{ReadTrace, WriteTrace};
 ghost use Rattle.model.proofs.Positions.{place};
 ghost use Rattle.judging.specs.Asks.{asked_line, ask_refused};
-ghost use Rattle.judging.specs.Case.{case, Answered, PassesAll};
+ghost use Rattle.judging.specs.Case.{proposed, Answered, PassesAll};
 ghost use Rattle.judging.specs.Outcomes.{IfPassed, rows_of, order_of, ReadsFrom, TracedOn};
 ghost use Rattle.judging.specs.Traces.{reach};
 
 use crate::passing;
 use crate::passing::Passing;
-use crate::passing::asks::pass;
+use crate::proposal::Proposal;
 use faults::Fault;
 use model::stored::copied_place;
 use model::verdict::Verdict;
 use rules::sheet::Sheet;
 use rules::wait::WaitRule;
 use rules::words::{Origin, WordKind};
-use tables::LINES;
 use tables::event::Event;
+use tables::line_id::LineId;
 use tables::tables::Tables;
 
 // The trace of the read of line `n`, which the write that it should have goes on with.
@@ -57,7 +57,7 @@ fn trace_write(passing: &Passing, m: usize) -> passing::Trace
 {
     match copied_place(passing.complete.standing.tables, m) {
         None => passing::Trace {
-            end: Origin::Line((m / LINES + 1) as u8, (m % LINES + 1) as u8),
+            end: Origin::Line(LineId::at(m).unwrap()),
             reads: 0,
         },
         Some(k) => trace_read(passing, k),
@@ -77,46 +77,40 @@ fn asked_place(tables: &Tables, processor: u32, line: u32) -> Result<usize, Faul
     Ok(place)
 }
 
-/// The write that the read of a line should have, or none for the start word. Refuses a processor or a line that is not
-/// there and a line that reads nothing, and then judges the order; a broken verdict replaces the result.
-pub fn source<'a, R: WaitRule, K: WordKind>(
-    tables: &'a Tables,
-    rule: &R,
-    kind: &K,
-    order: &'a [u32],
-    sheet: &mut Sheet<K::Word>,
-    processor: u32,
-    line: u32,
-) -> Result<Verdict<Option<Event>>, Fault>
-    ensures refused { (e : Fault) → ask_refused (contents tables.now) processor line ≡ Some e → result ≡ Err e }
-    ensures judged { ask_refused (contents tables.now) processor line ≡ None → Answered (case R.WaitRule.waits K.WordKind.meaning K.WordKind.starts K.WordKind.writtens (contents tables.now) order.now sheet.old.places.now) (length sheet.old.places.now) result }
-    ensures exactly { ask_refused (contents tables.now) processor line ≡ None → PassesAll (case R.WaitRule.waits K.WordKind.meaning K.WordKind.starts K.WordKind.writtens (contents tables.now) order.now sheet.old.places.now) (length sheet.old.places.now) result }
-    ensures passed { IfPassed result (ReadsFrom (program unit R.WaitRule.waits (contents tables.now)) order.now (asked_line processor line)) }
-    ensures same { sheet.new.places.now ≡ sheet.old.places.now }
-    ensures named { sheet.new.places.ghost_name ≡ sheet.old.places.ghost_name }
-{
-    let place = asked_place(tables, processor, line)?;
-    Ok(pass(tables, rule, kind, order, sheet)?.map(|passing| passing.source_of(place)))
-}
+impl<R: WaitRule, K: WordKind> Proposal<'_, '_, R, K> {
+    /// The write that the read of a line should have, or none for the start word. Refuses a processor or a line that is not
+    /// there and a line that reads nothing, and then judges the order; a broken verdict replaces the result.
+    pub fn source(
+        &self,
+        sheet: &mut Sheet<K::Word>,
+        processor: u32,
+        line: u32,
+    ) -> Result<Verdict<Option<Event>>, Fault>
+        ensures refused { (e : Fault) → ask_refused (contents self.now.tables.now) processor line ≡ Some e → result ≡ Err e }
+        ensures judged { ask_refused (contents self.now.tables.now) processor line ≡ None → Answered (proposed R.WaitRule.waits K.WordKind self.now sheet.old.places.now) (length sheet.old.places.now) result }
+        ensures exactly { ask_refused (contents self.now.tables.now) processor line ≡ None → PassesAll (proposed R.WaitRule.waits K.WordKind self.now sheet.old.places.now) (length sheet.old.places.now) result }
+        ensures passed { IfPassed result (ReadsFrom (program unit R.WaitRule.waits (contents self.now.tables.now)) self.now.order.now (asked_line processor line)) }
+        ensures same { sheet.new ≡ sheet.old }
+    {
+        let place = asked_place(self.tables, processor, line)?;
+        Ok(self.pass(sheet)?.map(|passing| passing.source_of(place)))
+    }
 
-/// Where the word that a line read comes from, and how many reads the trace met. Refuses a processor or a line that is not
-/// there and a line that reads nothing, and then judges the order; a broken verdict replaces the result.
-pub fn trace<'a, R: WaitRule, K: WordKind>(
-    tables: &'a Tables,
-    rule: &R,
-    kind: &K,
-    order: &'a [u32],
-    sheet: &mut Sheet<K::Word>,
-    processor: u32,
-    line: u32,
-) -> Result<Verdict<passing::Trace>, Fault>
-    ensures refused { (e : Fault) → ask_refused (contents tables.now) processor line ≡ Some e → result ≡ Err e }
-    ensures judged { ask_refused (contents tables.now) processor line ≡ None → Answered (case R.WaitRule.waits K.WordKind.meaning K.WordKind.starts K.WordKind.writtens (contents tables.now) order.now sheet.old.places.now) (length sheet.old.places.now) result }
-    ensures exactly { ask_refused (contents tables.now) processor line ≡ None → PassesAll (case R.WaitRule.waits K.WordKind.meaning K.WordKind.starts K.WordKind.writtens (contents tables.now) order.now sheet.old.places.now) (length sheet.old.places.now) result }
-    ensures passed { IfPassed result (TracedOn R.WaitRule.waits K.WordKind.meaning K.WordKind.starts K.WordKind.writtens (contents tables.now) order.now sheet.old.places.now (asked_line processor line)) }
-    ensures same { sheet.new.places.now ≡ sheet.old.places.now }
-    ensures named { sheet.new.places.ghost_name ≡ sheet.old.places.ghost_name }
-{
-    let place = asked_place(tables, processor, line)?;
-    Ok(pass(tables, rule, kind, order, sheet)?.map(|passing| trace_read(&passing, place)))
+    /// Where the word that a line read comes from, and how many reads the trace met. Refuses a processor or a line that is not
+    /// there and a line that reads nothing, and then judges the order; a broken verdict replaces the result.
+    pub fn trace(
+        &self,
+        sheet: &mut Sheet<K::Word>,
+        processor: u32,
+        line: u32,
+    ) -> Result<Verdict<passing::Trace>, Fault>
+        ensures refused { (e : Fault) → ask_refused (contents self.now.tables.now) processor line ≡ Some e → result ≡ Err e }
+        ensures judged { ask_refused (contents self.now.tables.now) processor line ≡ None → Answered (proposed R.WaitRule.waits K.WordKind self.now sheet.old.places.now) (length sheet.old.places.now) result }
+        ensures exactly { ask_refused (contents self.now.tables.now) processor line ≡ None → PassesAll (proposed R.WaitRule.waits K.WordKind self.now sheet.old.places.now) (length sheet.old.places.now) result }
+        ensures passed { IfPassed result (TracedOn R.WaitRule.waits K.WordKind (contents self.now.tables.now) self.now.order.now sheet.old.places.now (asked_line processor line)) }
+        ensures same { sheet.new ≡ sheet.old }
+    {
+        let place = asked_place(self.tables, processor, line)?;
+        Ok(self.pass(sheet)?.map(|passing| trace_read(&passing, place)))
+    }
 }

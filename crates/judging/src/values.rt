@@ -21,7 +21,7 @@ impl<'a> Complete<'a> {
         sheet: &mut Sheet<K::Word>,
         n: usize,
     ) -> Option<Option<usize>>
-        ensures checked { (w : Waits) → Checked (case w K.WordKind.meaning K.WordKind.starts K.WordKind.writtens (contents self.now.standing.tables.now) self.now.standing.order.now sheet.old.places.now) n result }
+        ensures checked { (w : Waits) → Checked (case w K.WordKind (contents self.now.standing.tables.now) self.now.standing.order.now sheet.old.places.now) n result }
         ensures within { IfSome result (λ w. Within w) }
         ensures same { sheet.new ≡ sheet.old }
     {
@@ -50,11 +50,11 @@ impl<'a> Complete<'a> {
         kind: &K,
         sheet: &mut Sheet<K::Word>,
     ) -> Option<(usize, Option<usize>)>
-        ensures checked { (w : Waits) → AllChecked (case w K.WordKind.meaning K.WordKind.starts K.WordKind.writtens (contents self.now.standing.tables.now) self.now.standing.order.now sheet.old.places.now) result }
+        ensures checked { (w : Waits) → AllChecked (case w K.WordKind (contents self.now.standing.tables.now) self.now.standing.order.now sheet.old.places.now) result }
         ensures within { IfSome result (λ p. (p.0 < 128) × Within p.1) }
         ensures same { sheet.new ≡ sheet.old }
     {
-        // A loop, since a proof learns nothing of what a closure of `find_map` does to the sheet.
+        // A loop, since with `find_map`, whose closure has the sheet, the proof did not close.
         for n in 0..PLACES {
             if let Some(source) = self.check_read(kind, sheet, n) {
                 return Some((n, source));

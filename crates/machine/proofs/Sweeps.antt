@@ -1,30 +1,10 @@
--- Finishing, line by line.
-use Rattle.std.proofs.Common.{◌≡◌, ℕ, zero, suc, ◌+◌, true, false, cond, Some, None, Option, sym, refl, ap, ◌∙◌, inl, inr, arith}
+-- Finishing issues nothing, and is a sweep after the half-done swap.
+use Rattle.std.proofs.Common.{◌≡◌, ℕ, zero, suc, Some, None, Option, refl, ap, ◌∙◌, inl, inr}
 use Rattle.std.proofs.lemmas.Bool.{cases_Bool, cond-true, cond-false}
 use Rattle.tables.specs.Size.{unit, places}
 use Rattle.model.specs.Machine.{State, sweep, after_drain, drain_half, finish}
 
 module _ (cell : ℕ → ℕ) where
-  pub sweep_none : (s : State) → s ≡ sweep cell s 0
-  unfolding sweep
-  sweep_none s = refl
-
-  sweep_next : (s : State) (n : ℕ) → sweep cell s (n + 1) ≡ cond ((sweep cell s n).held n) (after_drain (sweep cell s n) n (cell n)) (sweep cell s n)
-  unfolding sweep
-  sweep_next s n = let q : n + 1 ≡ suc n = omega arith in ap (sweep cell s) q
-
-  pub sweep_more :
-      (s t u : State) (n : ℕ) → t ≡ sweep cell s n
-      → (t.held n ≡ true → u ≡ after_drain t n (cell n)) → (t.held n ≡ false → u ≡ t) → u ≡ sweep cell s (n + 1)
-  sweep_more s t u n q f g =
-      let v = sweep cell s n in
-      let d : t.held n ≡ v.held n = ap (λ (x : State). x.held n) q in
-      elim (cases_Bool (t.held n)) [
-        | inl h ↦ f h ∙ ap (λ (x : State). after_drain x n (cell n)) q
-            ∙ sym (sweep_next s n ∙ cond-true (v.held n) (after_drain v n (cell n)) v (sym d ∙ h))
-        | inr h ↦ g h ∙ q ∙ sym (sweep_next s n ∙ cond-false (v.held n) (after_drain v n (cell n)) v (sym d ∙ h))
-      ]
-
   -- draining issues nothing
   sweep_issued : (s : State) (n : ℕ) → (sweep cell s n).issued ≡ s.issued
   unfolding sweep

@@ -1,7 +1,8 @@
 -- What a machine keeps, as the state of the model; and what its two smallest writers do.
-use Rattle.std.specs.Prelude.{ℕ, ◌-◌, Bool, true, false, [], ◌∷◌, ◌++◌, Some, None, Option, slice_index, slice_index_or, slice_set}
+use Rattle.std.specs.Prelude.{ℕ, Bool, true, false, [], ◌∷◌, ◌++◌, Some, None, Option, slice_index, slice_index_or, slice_set}
 use Rattle.tables.specs.declared.event.Event.{Event}
-use Rattle.tables.specs.Size.{unit, number}
+use Rattle.tables.specs.Size.{unit}
+use Rattle.tables.specs.LineIds.{place_of as line_place}
 use Rattle.model.specs.Machine.{State}
 use Rattle.machine.specs.declared.mark.Mark.{Mark}
 use Rattle.machine.specs.declared.mark.Mark.TheVariants.{Waiting, Held, Done}
@@ -14,7 +15,7 @@ is_held Done = false
 
 -- the number of an event's line
 abbrev pub place_of : Event → ℕ
-place_of e = number unit (e.processor - 1) (e.line - 1)
+place_of e = line_place unit e.at
 
 abbrev pub line_of : Option Event → Option ℕ
 line_of None = None

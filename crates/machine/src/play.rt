@@ -29,6 +29,7 @@ fn make<R: WaitRule, K: WordKind>(
     ensures tables { lines_of machine.new ≡ lines_of machine.old }
     ensures named { IsSameLoan sheet.old sheet.new }
 {
+    // Each call has a method of its own.
     let _ = match call {
         Call::Issue(processor) => machine.issue(rule, kind, sheet, processor),
         Call::Drain(processor, line) => machine.drain(rule, processor, line),

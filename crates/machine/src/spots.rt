@@ -4,10 +4,10 @@ ghost use Rattle.tables.specs.Size.{unit};
 ghost use Rattle.tables.specs.Events.{bit_of, code_of};
 ghost use Rattle.machine.specs.States.{place_of};
 
-use tables::LINES;
 use tables::event::{Event, Side};
+use tables::line_id::LineId;
 
-// The event on this side of the line at a place, from its parts: `Event::try_from` its code could refuse.
+// The event on this side of the line at a place.
 // A place is a plain number, bounded in each contract: it is computed, and a type of its own would be taken apart at each step.
 pub(crate) fn event_of(place: usize, side: Side) -> Event
     requires { place < 128 }
@@ -16,15 +16,7 @@ pub(crate) fn event_of(place: usize, side: Side) -> Event
     ensures sided { bit_of result.side ≡ bit_of side }
 {
     Event {
-        processor: (place / LINES + 1) as u8,
-        line: (place % LINES + 1) as u8,
+        at: LineId::at(place).unwrap(),
         side,
     }
-}
-
-// The place of an event's line.
-pub(crate) fn place_of(event: Event) -> usize
-    ensures { result ≡ place_of event }
-{
-    u32::from(event) as usize / 2
 }

@@ -1,11 +1,11 @@
 -- A drain keeps what holds of the machine.
 use Rattle.std.proofs.Common.{◌≡◌, ℕ, true, false, cond, ◌⊎◌, length, Some, None, sym, refl, ◌∙◌, subst, inl, inr, arith}
+use Rattle.std.proofs.lemmas.Option.{none-some}
 use Rattle.std.proofs.lemmas.Bool.{cases_Bool, cases_eq, both_ways, eq-eqb, ne_eqb, cases_lt}
 use Rattle.std.proofs.lemmas.Bool.Decides.{nat_tests}
 use Rattle.tables.specs.Size.{Earlier, rd, wr}
 use Rattle.model.specs.Program.{Program}
 use Rattle.model.specs.Machine.{State, after_drain}
-use Rattle.model.proofs.Extremes.{some≢none}
 use Rattle.model.proofs.Invariant.{Issued, CanDrain, issued_earlier, Inv, LastIs}
 use Rattle.model.proofs.IssueKeeps.{last_grow, once_snoc}
 use Rattle.model.proofs.Positions.{grow_snoc, Inside, Before, grow_place, before_grow, place, Grow, place_le}
@@ -131,6 +131,6 @@ module _ (P : Program) (s : State) (n : ℕ) (I : Inv P s) (C : CanDrain P s n) 
     wait_read = wait_read;
     atom = atom;
     half_in = half_in;
-    half_of = λ m h. absurd (some≢none m (sym h));
+    half_of = λ m h. absurd (none-some m h);
     last_is = last_is;
   }

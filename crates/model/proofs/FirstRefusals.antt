@@ -1,5 +1,5 @@
 -- Which test of a call is the first that refuses it.
-use Rattle.std.proofs.Common.{◌≡◌, ℕ, ◌-◌, ◌<◌, ◌≤◌, Bool, true, false, ◌&&◌, ◌||◌, eqb, ltb, leb, ◌⊎◌, List, [], ◌∷◌, Some, None, Option, refl, inl, inr, arith}
+use Rattle.std.proofs.Common.{◌≡◌, ℕ, ◌-◌, ◌<◌, ◌≤◌, Bool, true, false, ◌&&◌, ◌||◌, eqb, ltb, leb, ◌⊎◌, List, [], ◌∷◌, Some, None, Option, sym, refl, ◌∙◌, subst, inl, inr, arith}
 use Rattle.std.proofs.lemmas.Bool.{and_left, and_right, and_from, lt-ltb, le-ltb, le-leb, lt-leb, not_from_false, not_from_true, eq-eqb, ne_eqb}
 use Rattle.faults.specs.declared.Fault.{Fault}
 use Rattle.faults.specs.declared.Fault.TheVariants.{ProcessorUnknown, LineUnknown, SheetShort, NoLineLeft, IssueWaits, SwapHalfDone, NotHeld, DrainWaits}
@@ -72,8 +72,8 @@ module _ (z : Size) (w : Waits) (ts : List Rows) (q k : ℕ) where
   line_yes l h e = and_from (ltb k z.lines) acts (lt-ltb k z.lines h) (rw e (some_kind (kind_of l.access)))
 
 module _ (P : Program) (s : State) (room p : ℕ) where
-  abbrev n : ℕ
-  n = next P s (p - 1)
+  abbrev it : ℕ
+  it = next P s (p - 1)
 
   abbrev waiting : ℕ → Fault
   waiting m = IssueWaits (told P.size m)
@@ -82,12 +82,12 @@ module _ (P : Program) (s : State) (room p : ℕ) where
   halved j = SwapHalfDone (rd j)
 
   abbrev swaps : Bool
-  swaps = P.reads n && P.writes n
+  swaps = P.reads it && P.writes it
 
   pub issue_unknown : (p ≡ 0) ⊎ (P.size.tables < p) → issue_refusal P s room p ≡ Some ProcessorUnknown
   issue_unknown h =
       at_1 ProcessorUnknown (SheetShort room) (NoLineLeft p) (is_processor P.size p) (leb (places P.size) room) (has_next P s (p - 1))
-      waiting (P.reads n) (blocker P s n) halved swaps s.half (no_processor P.size p h)
+      waiting (P.reads it) (blocker P s it) halved swaps s.half (no_processor P.size p h)
 
   module _ (some : 0 < p) (few : p ≤ P.size.tables) where
     known : is_processor P.size p ≡ true
@@ -96,7 +96,7 @@ module _ (P : Program) (s : State) (room p : ℕ) where
     pub issue_short : room < places P.size → issue_refusal P s room p ≡ Some (SheetShort room)
     issue_short l =
         at_2 ProcessorUnknown (SheetShort room) (NoLineLeft p) (is_processor P.size p) (leb (places P.size) room) (has_next P s (p - 1))
-        waiting (P.reads n) (blocker P s n) halved swaps s.half known (lt-leb (places P.size) room l)
+        waiting (P.reads it) (blocker P s it) halved swaps s.half known (lt-leb (places P.size) room l)
 
     module _ (wide : places P.size ≤ room) where
       roomy : leb (places P.size) room ≡ true
@@ -105,37 +105,50 @@ module _ (P : Program) (s : State) (room p : ℕ) where
       pub issue_none_left : has_next P s (p - 1) ≡ false → issue_refusal P s room p ≡ Some (NoLineLeft p)
       issue_none_left h =
           at_3 ProcessorUnknown (SheetShort room) (NoLineLeft p) (is_processor P.size p) (leb (places P.size) room) (has_next P s (p - 1))
-          waiting (P.reads n) (blocker P s n) halved swaps s.half known roomy h
+          waiting (P.reads it) (blocker P s it) halved swaps s.half known roomy h
 
-      module _ (there : has_next P s (p - 1) ≡ true) where
-        open_to : bar waiting (P.reads n) (blocker P s n) ≡ None → bar halved swaps s.half ≡ None → issue_refusal P s room p ≡ None
+      -- line n is the next
+      module _ (there : has_next P s (p - 1) ≡ true) (n : ℕ) (e : n ≡ it) where
+        reads_it : (b : Bool) → P.reads n ≡ b → P.reads it ≡ b
+        reads_it b = subst (λ (k : ℕ). P.reads k ≡ b) e
+
+        writes_it : (b : Bool) → P.writes n ≡ b → P.writes it ≡ b
+        writes_it b = subst (λ (k : ℕ). P.writes k ≡ b) e
+
+        stopped : (o : Option ℕ) → blocker P s n ≡ o → blocker P s it ≡ o
+        stopped o = subst (λ (k : ℕ). blocker P s k ≡ o) e
+
+        open_to : bar waiting (P.reads it) (blocker P s it) ≡ None → bar halved swaps s.half ≡ None → issue_refusal P s room p ≡ None
         open_to =
             at_none ProcessorUnknown (SheetShort room) (NoLineLeft p) (is_processor P.size p) (leb (places P.size) room) (has_next P s (p - 1))
-            waiting (P.reads n) (blocker P s n) halved swaps s.half known roomy there
+            waiting (P.reads it) (blocker P s it) halved swaps s.half known roomy there
 
         pub issue_waits : (m : ℕ) → P.reads n ≡ true → blocker P s n ≡ Some m → issue_refusal P s room p ≡ Some (IssueWaits (told P.size m))
         issue_waits m r b =
             at_4 ProcessorUnknown (SheetShort room) (NoLineLeft p) (is_processor P.size p) (leb (places P.size) room) (has_next P s (p - 1))
-            waiting (P.reads n) (blocker P s n) halved swaps s.half m known roomy there r b
+            waiting (P.reads it) (blocker P s it) halved swaps s.half m known roomy there (reads_it true r) (stopped (Some m) b)
 
         -- a line that only stores waits for nothing here
         pub issue_store : P.reads n ≡ false → issue_refusal P s room p ≡ None
         issue_store r =
-            open_to (bar_off waiting (P.reads n) (blocker P s n) r) (bar_off halved swaps s.half (and_left (P.reads n) (P.writes n) r))
+            let r' = reads_it false r in
+            open_to (bar_off waiting (P.reads it) (blocker P s it) r') (bar_off halved swaps s.half (and_left (P.reads it) (P.writes it) r'))
 
         module _ (free : blocker P s n ≡ None) where
+          unstopped : bar waiting (P.reads it) (blocker P s it) ≡ None
+          unstopped = bar_open waiting (P.reads it) (blocker P s it) (stopped None free)
+
           pub issue_load : P.writes n ≡ false → issue_refusal P s room p ≡ None
-          issue_load v =
-              open_to (bar_open waiting (P.reads n) (blocker P s n) free) (bar_off halved swaps s.half (and_right (P.reads n) (P.writes n) v))
+          issue_load v = open_to unstopped (bar_off halved swaps s.half (and_right (P.reads it) (P.writes it) (writes_it false v)))
 
           pub issue_half : (j : ℕ) → P.reads n ≡ true → P.writes n ≡ true → s.half ≡ Some j → issue_refusal P s room p ≡ Some (SwapHalfDone (rd j))
           issue_half j r v h =
               at_5 ProcessorUnknown (SheetShort room) (NoLineLeft p) (is_processor P.size p) (leb (places P.size) room) (has_next P s (p - 1))
-              waiting (P.reads n) (blocker P s n) halved swaps s.half j known roomy there (bar_open waiting (P.reads n) (blocker P s n) free)
-              (and_from (P.reads n) (P.writes n) r v) h
+              waiting (P.reads it) (blocker P s it) halved swaps s.half j known roomy there unstopped
+              (and_from (P.reads it) (P.writes it) (reads_it true r) (writes_it true v)) h
 
           pub issue_swap : s.half ≡ None → issue_refusal P s room p ≡ None
-          issue_swap h = open_to (bar_open waiting (P.reads n) (blocker P s n) free) (bar_open halved swaps s.half h)
+          issue_swap h = open_to unstopped (bar_open halved swaps s.half h)
 
 own_half : (h : Option ℕ) (n : ℕ) → ((j : ℕ) → h ≡ Some j → j ≡ n) → bar (λ j. SwapHalfDone (rd j)) (other_half h n) h ≡ None
 own_half None n e = refl
@@ -174,30 +187,37 @@ module _ (P : Program) (s : State) (p l : ℕ) where
           | inr e ↦ and_right (ltb 0 l) (has_line P (p - 1) (l - 1)) e
         ])
 
-    module _ (above : 0 < l) (there : has_line P (p - 1) (l - 1) ≡ true) where
+    module _ (above : 0 < l) (there : has_line P (p - 1) (l - 1) ≡ true) (n : ℕ) (e : n ≡ m) where
       line_is : line_known ≡ true
       line_is = and_from (ltb 0 l) (has_line P (p - 1) (l - 1)) (lt-ltb 0 l above) there
 
-      pub drain_not_held : s.held m ≡ false → drain_refusal P s p l ≡ Some (NotHeld l)
+      holds : (b : Bool) → s.held n ≡ b → s.held m ≡ b
+      holds b = subst (λ (k : ℕ). s.held k ≡ b) e
+
+      pub drain_not_held : s.held n ≡ false → drain_refusal P s p l ≡ Some (NotHeld l)
       drain_not_held h =
           at_3 ProcessorUnknown (LineUnknown l) (NotHeld l) (is_processor P.size p) line_known (s.held m)
-          stalled true (blocker P s m) half_done (other_half s.half m) s.half is_known line_is h
+          stalled true (blocker P s m) half_done (other_half s.half m) s.half is_known line_is (holds false h)
 
-      module _ (held : s.held m ≡ true) where
-        pub drain_waits : (k : ℕ) → blocker P s m ≡ Some k → drain_refusal P s p l ≡ Some (DrainWaits (told P.size k))
+      module _ (held : s.held n ≡ true) where
+        pub drain_waits : (k : ℕ) → blocker P s n ≡ Some k → drain_refusal P s p l ≡ Some (DrainWaits (told P.size k))
         drain_waits k b =
             at_4 ProcessorUnknown (LineUnknown l) (NotHeld l) (is_processor P.size p) line_known (s.held m)
-            stalled true (blocker P s m) half_done (other_half s.half m) s.half k is_known line_is held refl b
+            stalled true (blocker P s m) half_done (other_half s.half m) s.half k is_known line_is (holds true held) refl
+            (subst (λ (i : ℕ). blocker P s i ≡ Some k) e b)
 
-        module _ (free : blocker P s m ≡ None) where
-          pub drain_half_done : (j : ℕ) → s.half ≡ Some j → (j ≡ m → ⊥) → drain_refusal P s p l ≡ Some (SwapHalfDone (rd j))
+        module _ (free : blocker P s n ≡ None) where
+          unbarred : bar stalled true (blocker P s m) ≡ None
+          unbarred = bar_open stalled true (blocker P s m) (subst (λ (i : ℕ). blocker P s i ≡ None) e free)
+
+          pub drain_half_done : (j : ℕ) → s.half ≡ Some j → (j ≡ n → ⊥) → drain_refusal P s p l ≡ Some (SwapHalfDone (rd j))
           drain_half_done j h d =
               at_5 ProcessorUnknown (LineUnknown l) (NotHeld l) (is_processor P.size p) line_known (s.held m)
-              stalled true (blocker P s m) half_done (other_half s.half m) s.half j is_known line_is held (bar_open stalled true (blocker P s m) free)
-              (is_other s.half m j h d) h
+              stalled true (blocker P s m) half_done (other_half s.half m) s.half j is_known line_is (holds true held) unbarred
+              (is_other s.half m j h (λ x. d (x ∙ sym e))) h
 
-          pub drain_goes : ((j : ℕ) → s.half ≡ Some j → j ≡ m) → drain_refusal P s p l ≡ None
+          pub drain_goes : ((j : ℕ) → s.half ≡ Some j → j ≡ n) → drain_refusal P s p l ≡ None
           drain_goes h =
               at_none ProcessorUnknown (LineUnknown l) (NotHeld l) (is_processor P.size p) line_known (s.held m)
-              stalled true (blocker P s m) half_done (other_half s.half m) s.half is_known line_is held (bar_open stalled true (blocker P s m) free)
-              (own_half s.half m h)
+              stalled true (blocker P s m) half_done (other_half s.half m) s.half is_known line_is (holds true held) unbarred
+              (own_half s.half m (λ j x. h j x ∙ e))

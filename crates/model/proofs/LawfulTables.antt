@@ -1,6 +1,7 @@
 -- Good tables are lawful under a rule with its law, and their lines write what the proofs ask of a line.
 use Rattle.std.proofs.Common.{◌≡◌, ℕ, zero, suc, ◌<◌, Bool, true, false, ◌⊎◌, List, [], ◌∷◌, get_or, Some, None, Option, sym, refl, ap, subst, inl, inr, arith}
 use lib.ListN.{get_or-eq_default}
+use Rattle.std.proofs.lemmas.Option.{none-some}
 use Rattle.std.proofs.lemmas.Bool.{both_ways, cases_lt}
 use Rattle.tables.specs.declared.line.Kind.{Kind}
 use Rattle.tables.specs.declared.line.Kind.TheVariants.{Load, Store, Swap}
@@ -17,7 +18,7 @@ use Rattle.model.proofs.Lawful.{Lawful, Local}
 use Rattle.model.proofs.Traces.{Copies}
 
 nth_above : {A : Type 0} (xs : List A) (i j : ℕ) (x : A) → i < j → nth xs j ≡ Some x → (y : A) × (nth xs i ≡ Some y)
-nth_above [] i j x l e = absurd (some≢none x (sym e))
+nth_above [] i j x l e = absurd (none-some x e)
 nth_above (a ∷ xs) zero j x l e = (a, refl)
 nth_above (a ∷ xs) (suc i) zero x l e = let y : ⊥ = omega arith in absurd y
 nth_above (a ∷ xs) (suc i) (suc j) x l e = nth_above xs i j x (omega arith) e
@@ -37,7 +38,7 @@ reads_or_writes Store = inr refl
 reads_or_writes Swap = inl refl
 
 line_acts : (x : Option Line) (l : Line) → x ≡ Some l → (of_line false line_reads x ≡ true) ⊎ (of_line false line_writes x ≡ true)
-line_acts None l e = absurd (some≢none l (sym e))
+line_acts None l e = absurd (none-some l e)
 line_acts (Some m) l e = reads_or_writes (kind_of m.access)
 
 waits_by_law :

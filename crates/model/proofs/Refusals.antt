@@ -1,5 +1,6 @@
 -- A call is refused exactly if the machine may not make it.
 use Rattle.std.proofs.Common.{◌≡◌, ℕ, ◌+◌, ◌<◌, ◌≤◌, Bool, true, false, not, ◌&&◌, ◌||◌, eqb, ltb, leb, List, [], ◌∷◌, Some, None, Option, sym, refl, ap, ◌∙◌, subst, inl, inr, arith}
+use Rattle.std.proofs.lemmas.Option.{none-some}
 use Rattle.std.proofs.lemmas.Bool.{cases_eq, both_ways, eq-eqb, ne_eqb, and_parts, and_from, ltb-true, not_from_false, lt-ltb, or_left, or_right, le-leb, leb-true, not_from_true, or_cases}
 use Rattle.faults.specs.declared.Fault.{Fault}
 use Rattle.faults.specs.declared.Fault.TheVariants.{ProcessorUnknown, LineUnknown, SheetShort, NoLineLeft, IssueWaits, SwapHalfDone, NotHeld, DrainWaits}
@@ -117,7 +118,7 @@ module _ (P : Program) (L : Lawful P) (s : State) where
         n = number P.size q k
 
         whole : (h : Option ℕ) → bar half_done (other_half h n) h ≡ None → (j : ℕ) → h ≡ Some j → j ≡ n
-        whole None r j x = absurd (some≢none j (sym x))
+        whole None r j x = absurd (none-some j x)
         whole (Some i) r j x = elim (cases_eq i n) [
           | inl y ↦ let d : i ≡ j = cc in cc
           | inr y ↦ absurd (some≢none i (bar_none half_done (other_half (Some i) n) (Some i) r (not_from_false (eqb i n) (ne_eqb i n y))))

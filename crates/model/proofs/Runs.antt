@@ -1,5 +1,6 @@
 -- What holds of machine and sheet holds at the start and after every list of calls.
 use Rattle.std.proofs.Common.{◌≡◌, ℕ, ◌-◌, ◌<◌, true, false, List, [], ◌∷◌, ◌++◌, length, Some, None, Option, sym, refl, ◌∙◌, subst, arith}
+use Rattle.std.proofs.lemmas.Option.{none-some}
 use Rattle.std.proofs.lemmas.Bool.{both_ways}
 use Rattle.faults.specs.declared.Fault.{Fault}
 use Rattle.tables.specs.Lines.{nth}
@@ -9,7 +10,6 @@ use Rattle.model.specs.declared.call.Call.TheVariants.{Issue, Drain}
 use Rattle.model.specs.Program.{Program}
 use Rattle.model.specs.Machine.{State, fresh, next, after_issue, Run, new, words_on, issued_line, drained_line, refusal, done, unless, step, run, Accepted}
 use Rattle.model.proofs.DrainKeeps.{drain_inv}
-use Rattle.model.proofs.Extremes.{some≢none}
 use Rattle.model.proofs.Invariant.{Issued, CanDrain, Values, CanIssue, Inv}
 use Rattle.model.proofs.IssueKeeps.{issued_old, issue_inv, issued_self}
 use Rattle.model.proofs.Lawful.{Lawful, Local}
@@ -43,7 +43,7 @@ fresh_inv P = record {
   wait_read = λ m n r e w i. absurd (nothing i);
   atom = λ n m w i. absurd (nothing i);
   half_in = λ n r h. absurd (both_ways false refl h);
-  half_of = λ n h. absurd (some≢none n (sym h));
+  half_of = λ n h. absurd (none-some n h);
   last_is = λ c j d. nothing d.stands;
 }
   where

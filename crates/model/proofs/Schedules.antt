@@ -23,6 +23,9 @@ use Rattle.model.proofs.Sheets.{words_issue}
 use Rattle.model.proofs.SourceWords.{source_word}
 use Rattle.model.proofs.WordsRead.{issue_words, sheet_old, named, issue_values}
 
+pub more_self : (f : ℕ → ℕ) (p k : ℕ) → more f p k p ≡ f p + k
+more_self f p k = grind (arith, nat_tests)
+
 one_more : (f : ℕ → ℕ) (p k l : ℕ) → l ≡ suc k → (q : ℕ) → more (more f p k) p 1 q ≡ more f p l q
 one_more f p k l e q = grind (arith, nat_tests)
 
@@ -216,9 +219,6 @@ module _ {M : Type 0} (P : Program) (L : Lawful P) (stored : (ℕ → M) → ℕ
 
       st : Stores n
       st = subst (λ (x : ℕ). Stores (number sz p x)) (sym (a.count p)) w
-
-  more_self : (f : ℕ → ℕ) (p k : ℕ) → more f p k p ≡ f p + k
-  more_self f p k = grind (arith, nat_tests)
 
   -- of Some lines that only store
   fill_at :

@@ -1,9 +1,10 @@
 -- The word that a line writes, by what it copies or by its number.
-use Rattle.std.proofs.Common.{◌≡◌, ℕ, suc, ◌+◌, ◌-◌, ◌*◌, ◌/◌, ◌%◌, ◌≤◌, List, Some, None, ap, ◌∙◌, arith}
+use Rattle.std.proofs.Common.{◌≡◌, ℕ, suc, ◌+◌, ◌-◌, ◌*◌, ◌/◌, ◌≤◌, List, Some, None, ap, ◌∙◌, arith}
 use Rattle.std.proofs.lemmas.List.{get_or_past}
 use Rattle.tables.specs.declared.tables.Tables.{Tables}
 use Rattle.tables.specs.Contents.{contents}
 use Rattle.tables.specs.Size.{unit, number, table, row}
+use Rattle.tables.specs.LineIds.{line_id}
 use Rattle.tables.specs.Lines.{nth}
 use Rattle.tables.specs.Rows.{Rows, empty}
 use Rattle.tables.specs.View.{of_line, operand_of, copied_by, copy_at, number_at}
@@ -23,13 +24,14 @@ unfolding table number
 copied_by_place m k r e = omega arith
 
 module _ {M : Type 0} (K : Words M) (ts : List Rows) (words : ℕ → M) (m : ℕ) where
-  pub stored_written : copy_at unit ts m ≡ None → stored_at K unit ts words m ≡ K.written (number_at unit ts m) (m / 32 + 1) (m % 32 + 1)
-  unfolding table row
+  pub stored_written :
+      copy_at unit ts m ≡ None
+      → stored_at K unit ts words m ≡ K.written (number_at unit ts m) (line_id unit m).processor (line_id unit m).line
   stored_written p =
-      let i : suc (m / 32) ≡ m / 32 + 1 = omega arith in
-      let j : suc (m % 32) ≡ m % 32 + 1 = omega arith in
+      let i : suc (table unit m) ≡ table unit m + 1 = omega arith in
+      let j : suc (row unit m) ≡ row unit m + 1 = omega arith in
       ap (written_or_copied (written_at K unit ts) words m) p
-      ∙ ap (λ (y : ℕ). K.written (number_at unit ts m) y (suc (m % 32))) i ∙ ap (K.written (number_at unit ts m) (m / 32 + 1)) j
+      ∙ ap (λ (y : ℕ). K.written (number_at unit ts m) y (suc (row unit m))) i ∙ ap (K.written (number_at unit ts m) (table unit m + 1)) j
 
   pub stored_copied : (k : ℕ) → copy_at unit ts m ≡ Some k → stored_at K unit ts words m ≡ words k
   stored_copied k p = ap (written_or_copied (written_at K unit ts) words m) p

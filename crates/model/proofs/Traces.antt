@@ -1,9 +1,9 @@
 -- The trace ends, meets few reads, and finds the word read.
-use Rattle.std.proofs.Common.{◌≡◌, ℕ, zero, suc, ◌-◌, ◌<◌, ◌≤◌, Bool, true, false, ◌&&◌, leb, ◌⊎◌, List, Some, None, Option, sym, refl, ap, ◌∙◌, subst, inl, inr, arith}
+use Rattle.std.proofs.Common.{◌≡◌, ℕ, zero, suc, ◌<◌, ◌≤◌, Bool, true, false, ◌&&◌, leb, ◌⊎◌, List, Some, None, Option, sym, refl, ap, ◌∙◌, subst, inl, inr, arith}
 use native.Mathlib.Decide.{ℕ_discrete, dec_lt}
 use Rattle.std.proofs.lemmas.Bool.{and_parts, and_from, le-leb, lt-leb, leb-true, false≢true, and_right}
-use Rattle.tables.specs.Size.{Earlier, rd, wr, number, table, row, places}
-use Rattle.tables.proofs.Numbering.{number_table_row}
+use Rattle.tables.specs.Size.{Earlier, rd, wr, table, places}
+use Rattle.tables.proofs.Codes.{place_id}
 use Rattle.rules.specs.declared.words.Origin.{Origin}
 use Rattle.rules.specs.declared.words.Origin.TheVariants.{Start}
 use Rattle.model.specs.Program.{Program}
@@ -45,11 +45,7 @@ pub record Copies {M : Type 0} (P : Program) (stored : (ℕ → M) → ℕ → M
 
 -- the word at a line's end is its written word
 found_at : {M : Type 0} (P : Program) (written start : ℕ → M) (m : ℕ) → found P written start (end_at P m) ≡ written m
-found_at P written start m =
-    let p : suc (table P.size m) - 1 ≡ table P.size m = omega arith in
-    let k : suc (row P.size m) - 1 ≡ row P.size m = omega arith in
-    let n : number P.size (suc (table P.size m) - 1) (suc (row P.size m) - 1) ≡ number P.size (table P.size m) (row P.size m) = cc in
-    ap written (n ∙ number_table_row P.size m)
+found_at P written start m = ap written (place_id P.size m)
 
 module _ {M : Type 0} (P : Program) (stored : (ℕ → M) → ℕ → M) (start : ℕ → M) (o : List ℕ) (words : ℕ → M) (L : Lawful P) (A : Placed P stored start o words)
     (copy : ℕ → Option ℕ) (written : ℕ → M) (H : Copies P stored words copy written) where

@@ -1,6 +1,7 @@
 -- The trace of a read to the written or start word that it comes from.
-use Rattle.std.specs.Prelude.{◌≡◌, ℕ, zero, suc, ◌-◌, ◌≤◌, Bool, cond, List, Some, None, Option}
-use Rattle.tables.specs.Size.{number, table, row, places}
+use Rattle.std.specs.Prelude.{◌≡◌, ℕ, zero, suc, ◌≤◌, Bool, cond, List, Some, None, Option}
+use Rattle.tables.specs.Size.{places}
+use Rattle.tables.specs.LineIds.{line_id, place_of}
 use Rattle.rules.specs.declared.words.Origin.{Origin}
 use Rattle.rules.specs.declared.words.Origin.TheVariants.{Start, Line}
 use Rattle.model.specs.Program.{Program}
@@ -8,7 +9,7 @@ use Rattle.model.specs.Axioms.{Should}
 
 -- the end at a line's written word, which is told by processor and line
 abbrev pub end_at : Program → ℕ → Origin
-end_at P m = Line (suc (table P.size m)) (suc (row P.size m))
+end_at P m = Line (line_id P.size m)
 
 -- a read passes the question to the write that it should have, and a copying write passes it back to the read it copied; here
 -- from the read of a line, and from the write of a line, to an end, with so many reads met. `copy` has the line that a line copies
@@ -24,7 +25,7 @@ mutual
 
 -- the word at an end: that written there, or the cell's start
 abbrev pub found : {M : Type 0} → Program → (ℕ → M) → (ℕ → M) → Origin → M
-found P written start (Line p l) = written (number P.size (p - 1) (l - 1))
+found P written start (Line l) = written (place_of P.size l)
 found P written start (Start c) = start c
 
 -- how many numbers below a bound pass a test

@@ -10,14 +10,17 @@ ghost use Rattle.model.specs.Machine.{words_on};
 use rules::sheet::Sheet;
 use rules::words::WordKind;
 use tables::line::Operand;
+use tables::line_id::LineId;
 use tables::tables::Tables;
 use tables::{LINES, PLACES};
 
+// No option: the axioms have a word for every place.
 /// The word that stands at a place of the sheet; past its end, a start word. Nothing changes.
 pub fn word_at<K: WordKind>(kind: &K, sheet: &mut Sheet<K::Word>, place: usize) -> K::Word
     ensures value { K.WordKind.meaning result ≡ words_on K.WordKind.starts (map K.WordKind.meaning sheet.old.places.now) place }
     ensures same { sheet.new ≡ sheet.old }
 {
+    // A match, since with `unwrap_or_else` the proof did not close.
     match sheet.get(place) {
         Some(word) => word,
         None => kind.start(0),
@@ -63,15 +66,15 @@ pub fn stored_word<K: WordKind>(
     ensures past { 128 ≤ place → K.WordKind.meaning result ≡ K.WordKind.starts 0 }
     ensures same { sheet.new ≡ sheet.old }
 {
+    // No option: callers have a line of the tables, and the contract says what comes past the last place.
     if place >= PLACES {
         return kind.start(0);
     }
     match copied_place(tables, place) {
         Some(copied) => word_at(kind, sheet, copied),
         None => {
-            let processor = (place / LINES + 1) as u8;
-            let line = (place % LINES + 1) as u8;
-            kind.written(number_at(tables, place), processor, line)
+            let line = LineId::at(place).unwrap();
+            kind.written(number_at(tables, place), line)
         }
     }
 }

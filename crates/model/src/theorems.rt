@@ -1,4 +1,5 @@
-// The theorems of the model, each on a function that carries it for every waiting rule and every kind of word.
+// The theorems of the model, each on a function that carries it for every waiting rule and every kind of word. The functions
+// differ in their clause alone, and no parameter can be a clause.
 ghost use Rattle.model.specs.Program.{words_of};
 ghost use Rattle.model.specs.Theorems.{MachineMeetsAxioms, CompletedMeetsAxioms, AxiomsReachedBySchedule, ReachedExactlyIfAxioms, CallsToComplete, TraceFindsTheWord};
 

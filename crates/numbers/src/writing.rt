@@ -47,7 +47,7 @@ fn put_number(out: &mut [u8], at: usize, value: u32) -> usize
     put_groups(out, at, value, GROUPS)
 }
 
-/// Writes a number that has at most `left` groups.
+/// Writes a number that has at most `left` groups. List, place and number change with each group, so they come one by one.
 fn put_groups(out: &mut [u8], at: usize, value: u32, left: u8) -> usize
     requires { (at + length (encoded_by left value) ≤ length out.old) × ((0 < left) × (value < bound left)) }
     ensures { Put (encoded_by left value) out.old at result out.new }

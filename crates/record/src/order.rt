@@ -30,6 +30,7 @@ pub(crate) fn read_order(part: Part) -> Result<ArrayVec<u32, EVENTS>, Fault>
 {
     let mut codes = ArrayVec::new();
     let mut at = 0;
+    // `at` goes on by what is read.
     while at < part.bytes.len() {
         let code = part.event(&mut at, codes.len())?;
         codes.push(code);

@@ -14,6 +14,7 @@ pub struct Part<'a> {
     pub start: usize,
 }
 
+// The place is handed along beside the part: a reader that kept both would need a clause in each method, that its part stays.
 impl Part<'_> {
     // The number at `at`, which moves to the place after it.
     pub(crate) fn number(self, at: &mut usize) -> Result<u32, Fault>

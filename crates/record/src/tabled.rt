@@ -58,6 +58,7 @@ impl Reading {
             (λ e. (table_form part.entry.bytes.now part.entry.start).amiss 0 e) }
     {
         let mut at = 0;
+        // `at` goes on by what is read.
         while at < part.bytes.len() {
             let rows = self.draft.tables().table(table).unwrap();
             let item = part.item(&mut at, rows)?;
@@ -67,6 +68,7 @@ impl Reading {
     }
 }
 
+// Bytes and a place in them come as they are where the whole record is meant; within a section they are a `Part`.
 // Reads the sections of all tables from `at` on into the room of the draft, and gives the place after them.
 pub(crate) fn read_tables(draft: Draft, bytes: &[u8], at: usize) -> Result<(Reading, usize), Fault>
     ensures { MatchResult result
@@ -75,6 +77,7 @@ pub(crate) fn read_tables(draft: Draft, bytes: &[u8], at: usize) -> Result<(Read
 {
     let mut reading = Reading::new(draft);
     let mut next = at;
+    // A loop, since each section begins where the one before it ended.
     for table in 0..PROCESSORS {
         let (part, after) = section(bytes, next)?;
         reading.read_table(table, part)?;

@@ -1,8 +1,10 @@
 // The waiting rules by their numbers.
-ghost use Rattle.std.specs.Prelude.{◌≡◌};
+ghost use Rattle.std.specs.Prelude.{◌≡◌, ◌++◌, Some, codes, decimal};
 ghost use Rattle.rules.specs.Rules.{number_of, NamesRule};
 
 use crate::wait::{Strong, TotalStoreOrder, WaitRule};
+use std::error::Error;
+use std::fmt;
 
 /// One of the waiting rules.
 #[derive(Clone, Copy, PartialEq, Eq, Debug)]
@@ -29,6 +31,16 @@ impl TryFrom<u32> for Rule {
         }
     }
 }
+
+impl fmt::Display for UnknownRule {
+    ghost output = { λ e. Some (codes "no rule has the number " ++ decimal (e.0)) };
+
+    fn fmt<W: fmt::Write>(&self, f: &mut fmt::Formatter<W>) -> fmt::Result {
+        write!(f, "no rule has the number {}", self.0)
+    }
+}
+
+impl Error for UnknownRule {}
 
 /// The number that a rule carries.
 impl From<Rule> for u32 {

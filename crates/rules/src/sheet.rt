@@ -3,14 +3,14 @@ ghost use Rattle.std.specs.Prelude.{◌≡◌, ◌<◌, ◌≤◌, length, Some,
 ghost use Rattle.tables.specs.Lines.{nth};
 ghost use Rattle.rules.specs.Sheets.{IsSameLoan};
 
+// A sheet does not know its kind of word: one and the same sheet serves where there are only numbers and no kind.
 /// Places for words of any kind, lent by the caller.
 #[derive(Drop)]
 pub struct Sheet<'a, W> {
     places: &'a mut [W],
 }
 
-// The word at a place, if there is such a place; nothing changes. It takes the slice as it was lent, for writing: that is a rule
-// of the project.
+// The word at a place, if there is such a place; nothing changes. A lent slice is handed on as it is lent, for writing.
 fn read_place<W: Copy>(places: &mut [W], i: usize) -> Option<W>
     ensures value { result ≡ slice_get places.old i }
     ensures same { places.new ≡ places.old }
@@ -72,13 +72,36 @@ impl<'a, W: Copy> Sheet<'a, W> {
 mod tests {
     use super::Sheet;
     use crate::words::{NumberWords, Origin, OriginWords, WordKind};
+    use tables::line_id::LineId;
 
     #[test]
     fn numbers_stand_where_they_were_put(rt: HostRuntime) {
         let mut places = [NumberWords.start(0); 3];
         let mut sheet = Sheet::over(&mut places);
-        assert!(rt; sheet.put(1, NumberWords.written(7, 1, 2)));
-        assert!(rt; !sheet.put(3, NumberWords.written(9, 1, 4)));
+        assert!(rt;
+            sheet.put(
+                1,
+                NumberWords.written(
+                    7,
+                    LineId {
+                        processor: 1,
+                        line: 2
+                    }
+                )
+            )
+        );
+        assert!(rt;
+            !sheet.put(
+                3,
+                NumberWords.written(
+                    9,
+                    LineId {
+                        processor: 1,
+                        line: 4
+                    }
+                )
+            )
+        );
         assert_eq!(rt; sheet.get(0), Some(0));
         assert_eq!(rt; sheet.get(1), Some(7));
         assert_eq!(rt; sheet.get(3), None);
@@ -88,10 +111,38 @@ mod tests {
     fn origins_stand_where_they_were_put(rt: HostRuntime) {
         let mut places = [OriginWords.start(5); 3];
         let mut sheet = Sheet::over(&mut places);
-        assert!(rt; sheet.put(1, OriginWords.written(7, 1, 2)));
-        assert!(rt; !sheet.put(3, OriginWords.written(9, 1, 4)));
+        assert!(rt;
+            sheet.put(
+                1,
+                OriginWords.written(
+                    7,
+                    LineId {
+                        processor: 1,
+                        line: 2
+                    }
+                )
+            )
+        );
+        assert!(rt;
+            !sheet.put(
+                3,
+                OriginWords.written(
+                    9,
+                    LineId {
+                        processor: 1,
+                        line: 4
+                    }
+                )
+            )
+        );
         assert_eq!(rt; sheet.get(0), Some(Origin::Start(5)));
-        assert_eq!(rt; sheet.get(1), Some(Origin::Line(1, 2)));
+        assert_eq!(rt;
+            sheet.get(1),
+            Some(Origin::Line(LineId {
+                processor: 1,
+                line: 2
+            }))
+        );
         assert_eq!(rt; sheet.get(3), None);
     }
 }

@@ -4,6 +4,7 @@ ghost use Rattle.rules.specs.declared.words.Origin.{Origin};
 ghost use Rattle.rules.specs.Text.{origin_text};
 
 use std::fmt;
+use tables::line_id::LineId;
 
 /// A kind of word. Words are the same exactly when their meanings are equal.
 pub trait WordKind {
@@ -23,9 +24,9 @@ pub trait WordKind {
     fn start(&self, cell: u8) -> Self::Word
         ensures { meaning result ≡ starts cell };
 
-    /// The word for a number that a line of a processor writes.
-    fn written(&self, number: u32, processor: u8, line: u8) -> Self::Word
-        ensures { meaning result ≡ writtens number processor line };
+    /// The word for a number that a line writes.
+    fn written(&self, number: u32, line: LineId) -> Self::Word
+        ensures { meaning result ≡ writtens number line.processor line.line };
 
     /// Whether two words are the same.
     fn same(&self, a: &Self::Word, b: &Self::Word) -> bool
@@ -51,7 +52,7 @@ impl WordKind for NumberWords {
         0
     }
 
-    fn written(&self, number: u32, _processor: u8, _line: u8) -> u32 {
+    fn written(&self, number: u32, _line: LineId) -> u32 {
         number
     }
 
@@ -60,11 +61,11 @@ impl WordKind for NumberWords {
     }
 }
 
-/// Where a word comes from: a cell's start, or the line that wrote it, by processor and line.
+/// Where a word comes from: a cell's start, or the line that wrote it.
 #[derive(Clone, Copy, PartialEq, Eq, Debug)]
 pub enum Origin {
     Start(u8),
-    Line(u8, u8),
+    Line(LineId),
 }
 
 /// The line, as `2.1`, or `start`.
@@ -74,7 +75,7 @@ impl fmt::Display for Origin {
     fn fmt<W: fmt::Write>(&self, f: &mut fmt::Formatter<W>) -> fmt::Result {
         match self {
             Origin::Start(_) => f.write_str("start"),
-            Origin::Line(processor, line) => write!(f, "{processor}.{line}"),
+            Origin::Line(line) => write!(f, "{line}"),
         }
     }
 }
@@ -92,14 +93,14 @@ impl WordKind for OriginWords {
 
     ghost starts = { λ c. Origin.Start c };
 
-    ghost writtens = { λ _ p l. Origin.Line p l };
+    ghost writtens = { λ _ p l. Origin.Line (record { processor = p; line = l }) };
 
     fn start(&self, cell: u8) -> Origin {
         Origin::Start(cell)
     }
 
-    fn written(&self, _number: u32, processor: u8, line: u8) -> Origin {
-        Origin::Line(processor, line)
+    fn written(&self, _number: u32, line: LineId) -> Origin {
+        Origin::Line(line)
     }
 
     fn same(&self, a: &Origin, b: &Origin) -> bool {

@@ -11,10 +11,8 @@ use Rattle.tables.proofs.Numbering.{number_table_row}
 use Rattle.model.specs.declared.call.Call.{Call}
 use Rattle.model.specs.declared.call.Call.TheVariants.{Issue}
 use Rattle.model.specs.Schedule.{schedule, call_code, fill, lacking, more, up_to, drain_of, drains}
+use Rattle.model.proofs.Schedules.{more_self}
 use Rattle.scheduling.specs.Calls.{issued_by, event_calls, codes_of}
-
-pub more_self : (f : ℕ → ℕ) (p k : ℕ) → more f p k p ≡ f p + k
-more_self f p k = grind (arith, nat_tests)
 
 more_other : (f : ℕ → ℕ) (p k q : ℕ) → (q ≡ p → ⊥) → more f p k q ≡ f q
 more_other f p k q d = grind (arith, nat_tests)

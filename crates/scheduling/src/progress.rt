@@ -1,4 +1,4 @@
-// Writing the calls of a schedule, event by event.
+// Writing the calls of a schedule, event by event. Calls are written as numbers: a schedule is a list of codes for its user.
 ghost use Rattle.std.specs.Prelude.{◌≡◌, ℕ, ◌+◌, ◌-◌, ◌/◌, ◌<◌, ◌≤◌, [], ◌∷◌, length};
 ghost use Rattle.numbers.specs.Put.{Put};
 ghost use Rattle.tables.specs.Size.{unit};

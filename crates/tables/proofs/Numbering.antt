@@ -1,8 +1,11 @@
 -- The facts of division on which numbers of lines rest; elsewhere table and row are taken as they are.
-use Rattle.std.proofs.Common.{◌≡◌, ℕ, ◌+◌, ◌*◌, ◌/◌, ◌%◌, ◌<◌, ap, ◌∙◌, mul_comm, arith}
+use Rattle.std.proofs.Common.{◌≡◌, ℕ, ◌+◌, ◌*◌, ◌/◌, ◌%◌, ◌<◌, List, get_or, ap₂, ap, ◌∙◌, mul_comm, arith}
 use native.Mathlib.Nat.{div-add-mod}
 use Rattle.std.proofs.lemmas.Nat.{div-mul-add, mod-mul-add, mod_below, div_below, mul-add-lt}
 use Rattle.tables.specs.Size.{Size, number, table, row, places, Earlier}
+use Rattle.tables.specs.Lines.{nth}
+use Rattle.tables.specs.Rows.{Rows, empty}
+use Rattle.tables.specs.View.{line_at}
 
 module _ (z : Size) where
   pub number_table_row : (n : ℕ) → number z (table z n) (row z n) ≡ n
@@ -20,6 +23,10 @@ module _ (z : Size) where
   pub row_number : (p k : ℕ) → k < z.lines → row z (number z p k) ≡ k
   unfolding number row
   row_number p k l = ap (λ (x : ℕ). (x + k) % z.lines) (mul_comm z.lines p) ∙ mod-mul-add p z.lines k l
+
+  -- the line of a table's row
+  pub line_of_row : (ts : List Rows) (p k : ℕ) → k < z.lines → line_at z ts (number z p k) ≡ nth (get_or ts p empty).lines k
+  line_of_row ts p k l = ap₂ (λ (q i : ℕ). nth (get_or ts q empty).lines i) (table_number p k l) (row_number p k l)
 
   pub number_below : (p k : ℕ) → p < z.tables → k < z.lines → number z p k < places z
   unfolding number places

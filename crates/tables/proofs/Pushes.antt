@@ -1,5 +1,5 @@
 -- What one line more keeps.
-use Rattle.std.proofs.Common.{◌≡◌, ℕ, zero, suc, ◌-◌, ◌<◌, ◌≤◌, true, false, List, [], ◌∷◌, ◌++◌, length, get_or, Some, None, sym, refl, ap, ◌∙◌, inl, inr, arith}
+use Rattle.std.proofs.Common.{◌≡◌, ℕ, zero, suc, ◌-◌, ◌<◌, ◌≤◌, true, false, List, [], ◌∷◌, ◌++◌, length, Some, sym, refl, ap, ◌∙◌, inl, inr, arith}
 use Rattle.std.proofs.lemmas.List.{take-append-le, length_push, take_all}
 use Rattle.std.proofs.lemmas.Bool.{cases_lt}
 use Rattle.tables.specs.declared.line.Line.{Line}
@@ -80,16 +80,6 @@ reading_past ls zero h = refl
 reading_past [] (suc k) h = refl
 reading_past (l ∷ ls) (suc zero) h = absurd (omega arith)
 reading_past (l ∷ ls) (suc (suc k)) h = reading_past ls (suc k) (omega arith)
-
-pub nth_past : {X : Type 0} (ls : List X) (k : ℕ) → length ls ≤ k → nth ls k ≡ None
-nth_past [] k h = refl
-nth_past (l ∷ ls) zero h = absurd (omega arith)
-nth_past (l ∷ ls) (suc k) h = nth_past ls k (omega arith)
-
-pub nth_at : {X : Type 0} (ls : List X) (k : ℕ) (d : X) → k < length ls → nth ls k ≡ Some (get_or ls k d)
-nth_at [] k d h = absurd (omega arith)
-nth_at (l ∷ ls) zero d h = refl
-nth_at (l ∷ ls) (suc k) d h = nth_at ls k d (omega arith)
 
 reading_row : (ls : List Line) (j : ℕ) → reading ls (suc j) ≡ of_line false line_reads (nth ls j)
 reading_row [] j = refl

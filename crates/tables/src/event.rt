@@ -3,7 +3,7 @@ ghost use Rattle.std.specs.Prelude.{◌≡◌, Some, codes as text};
 ghost use Rattle.tables.specs.Size.{unit};
 ghost use Rattle.tables.specs.Events.{bit_of, side_of, Coded, Decoded, side_text, event_text};
 
-use crate::EVENTS;
+use crate::line_id::LineId;
 use std::error::Error;
 use std::fmt;
 
@@ -14,11 +14,10 @@ pub enum Side {
     Write,
 }
 
-/// An event: processor and line, both counted from 1, and the side.
+/// An event: its line, and the side.
 #[derive(Clone, Copy, PartialEq, Eq, Debug)]
 pub struct Event {
-    pub processor: u8,
-    pub line: u8,
+    pub at: LineId,
     pub side: Side,
 }
 
@@ -50,9 +49,7 @@ impl From<Event> for u32 {
     ghost from_gives = { Coded unit };
 
     fn from(event: Event) -> u32 {
-        let table = u32::from(event.processor.saturating_sub(1));
-        let row = u32::from(event.line.saturating_sub(1));
-        (table * 32 + row) * 2 + event.side.bit()
+        event.at.place() as u32 * 2 + event.side.bit()
     }
 }
 
@@ -63,13 +60,9 @@ impl TryFrom<u32> for Event {
     ghost try_from_gives = { Decoded unit };
 
     fn try_from(code: u32) -> Result<Event, NoEvent> {
-        if code as usize >= EVENTS {
-            return Err(NoEvent);
-        }
-        let place = code / 2;
+        let at = LineId::at(code as usize / 2).ok_or(NoEvent)?;
         Ok(Event {
-            processor: (place / 32 + 1) as u8,
-            line: (place % 32 + 1) as u8,
+            at,
             side: Side::of_code(code),
         })
     }
@@ -102,6 +95,6 @@ impl fmt::Display for Event {
     ghost output = { λ e. Some (event_text e) };
 
     fn fmt<W: fmt::Write>(&self, f: &mut fmt::Formatter<W>) -> fmt::Result {
-        write!(f, "{}.{}{}", self.processor, self.line, self.side)
+        write!(f, "{}{}", self.at, self.side)
     }
 }

@@ -4,6 +4,7 @@
 pub mod draft;
 pub mod event;
 pub mod line;
+pub mod line_id;
 pub mod table;
 pub mod tables;
 

@@ -42,6 +42,7 @@ pub enum Entry {
 }
 
 impl Access {
+    // By name and not by From: it is mostly asked for in passing, where a conversion would have to name its type.
     /// The access without its operand.
     pub fn kind(self) -> Kind
         ensures { result ≡ kind_of self }

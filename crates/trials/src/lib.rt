@@ -4,9 +4,8 @@
 #[cfg(test)]
 mod tests {
     use faults::Fault;
-    use judging::judge::judge;
     use judging::passing::Trace;
-    use judging::trace::trace;
+    use judging::proposal::Proposal;
     use machine::play::play;
     use model::call::Call;
     use model::verdict::Verdict;
@@ -18,6 +17,8 @@ mod tests {
     use std::test::Fail;
     use tables::draft::Draft;
     use tables::line::{Access, Entry, Operand};
+    use tables::line_id::LineId;
+    use tables::tables::Tables;
 
     fn store(number: u32, cell: u8) -> Entry {
         Entry::Operation(Access::Store(Operand::Written(number)), cell)
@@ -46,6 +47,19 @@ mod tests {
         }
     }
 
+    // An order of the tables under total store order, with number words.
+    fn numbers<'a>(
+        tables: &'a Tables,
+        order: &'a [u32],
+    ) -> Proposal<'a, 'static, TotalStoreOrder, NumberWords> {
+        Proposal {
+            tables,
+            rule: &TotalStoreOrder,
+            kind: &NumberWords,
+            order,
+        }
+    }
+
     // Both loads stand before both stores: 1.2r 2.2r 1.1w 2.1w.
     const LOADS_FIRST: [u32; 4] = [2, 66, 1, 65];
 
@@ -56,17 +70,23 @@ mod tests {
         let mut words = [Origin::Start(0); 128];
         words[1] = Origin::Start(1);
         let mut sheet = Sheet::over(&mut words);
-        let tables = draft.tables();
-        let weak = judge(
-            tables,
-            &TotalStoreOrder,
-            &OriginWords,
-            &LOADS_FIRST,
-            &mut sheet,
+        let weak = Proposal {
+            tables: draft.tables(),
+            rule: &TotalStoreOrder,
+            kind: &OriginWords,
+            order: &LOADS_FIRST,
+        };
+        assert_eq!(rt; told(heap, weak.judge(&mut sheet))?.as_str(), "passes");
+        let strong = Proposal {
+            tables: draft.tables(),
+            rule: &Strong,
+            kind: &OriginWords,
+            order: &LOADS_FIRST,
+        };
+        assert_eq!(rt;
+            told(heap, strong.judge(&mut sheet))?.as_str(),
+            "broken Wait 1.1w 1.2r"
         );
-        assert_eq!(rt; told(heap, weak)?.as_str(), "passes");
-        let strong = judge(tables, &Strong, &OriginWords, &LOADS_FIRST, &mut sheet);
-        assert_eq!(rt; told(heap, strong)?.as_str(), "broken Wait 1.1w 1.2r");
         Ok(())
     }
 
@@ -74,24 +94,12 @@ mod tests {
     fn sheets_of_other_sizes(rt: HostRuntime) -> Result<(), Fail> {
         let heap = rt.alloc();
         let draft = store_buffering(heap)?;
-        let tables = draft.tables();
+        let proposal = numbers(draft.tables(), &LOADS_FIRST);
         let mut short = [0; 127];
-        let refused = judge(
-            tables,
-            &TotalStoreOrder,
-            &NumberWords,
-            &LOADS_FIRST,
-            &mut Sheet::over(&mut short),
-        );
+        let refused = proposal.judge(&mut Sheet::over(&mut short));
         assert_eq!(rt; told(heap, refused)?.as_str(), "14 call 127");
         let mut long = [0; 200];
-        let passed = judge(
-            tables,
-            &TotalStoreOrder,
-            &NumberWords,
-            &LOADS_FIRST,
-            &mut Sheet::over(&mut long),
-        );
+        let passed = proposal.judge(&mut Sheet::over(&mut long));
         assert_eq!(rt; told(heap, passed)?.as_str(), "passes");
         Ok(())
     }
@@ -105,15 +113,18 @@ mod tests {
         draft.add(1, store(5, 0))?;
         draft.add(2, load(0))?;
         let mut words = [Origin::Start(0); 128];
-        words[32] = Origin::Line(1, 1);
-        let stale = judge(
-            draft.tables(),
-            &TotalStoreOrder,
-            &OriginWords,
-            &[1, 3, 64],
-            &mut Sheet::over(&mut words),
-        );
-        assert_eq!(rt; told(heap, stale)?.as_str(), "broken Value 2.1r 1.2w");
+        words[32] = Origin::Line(LineId {
+            processor: 1,
+            line: 1,
+        });
+        let stale = Proposal {
+            tables: draft.tables(),
+            rule: &TotalStoreOrder,
+            kind: &OriginWords,
+            order: &[1, 3, 64],
+        };
+        let answer = stale.judge(&mut Sheet::over(&mut words));
+        assert_eq!(rt; told(heap, answer)?.as_str(), "broken Value 2.1r 1.2w");
         Ok(())
     }
 
@@ -125,34 +136,19 @@ mod tests {
     #[test]
     fn questions_about_single_lines(rt: HostRuntime) -> Result<(), Fail> {
         let draft = store_buffering(rt.alloc())?;
-        let tables = draft.tables();
+        let proposal = numbers(draft.tables(), &LOADS_FIRST);
         let mut words = [0; 128];
         let mut sheet = Sheet::over(&mut words);
-        let rule = TotalStoreOrder;
-        assert_eq!(rt;
-            refusal(trace(tables, &rule, &NumberWords, &LOADS_FIRST, &mut sheet, 1, 2)),
-            None
-        );
-        assert_eq!(rt;
-            refusal(trace(tables, &rule, &NumberWords, &LOADS_FIRST, &mut sheet, 5, 2)),
-            Some(12)
-        );
-        assert_eq!(rt;
-            refusal(trace(tables, &rule, &NumberWords, &LOADS_FIRST, &mut sheet, 1, 3)),
-            Some(13)
-        );
-        assert_eq!(rt;
-            refusal(trace(tables, &rule, &NumberWords, &LOADS_FIRST, &mut sheet, 1, 1)),
-            Some(15)
-        );
-        assert_eq!(rt;
-            refusal(trace(tables, &rule, &NumberWords, &[2, 7], &mut sheet, 1, 2)),
-            Some(17)
-        );
+        assert_eq!(rt; refusal(proposal.trace(&mut sheet, 1, 2)), None);
+        assert_eq!(rt; refusal(proposal.trace(&mut sheet, 5, 2)), Some(12));
+        assert_eq!(rt; refusal(proposal.trace(&mut sheet, 1, 3)), Some(13));
+        assert_eq!(rt; refusal(proposal.trace(&mut sheet, 1, 1)), Some(15));
+        let lacking = numbers(draft.tables(), &[2, 7]);
+        assert_eq!(rt; refusal(lacking.trace(&mut sheet, 1, 2)), Some(17));
         Ok(())
     }
 
-    // The call that has this code in a schedule.
+    // The call that has this code in a schedule, whose codes are numbers for its user; only this test reads them back.
     fn call(code: u32) -> Call {
         if code < 4 {
             return Call::Issue(code + 1);
@@ -170,22 +166,12 @@ mod tests {
         let mut codes = [0; 6];
         let mut sheet = Sheet::over(&mut words);
         let made = schedule(
-            draft.tables(),
-            &TotalStoreOrder,
-            &NumberWords,
-            &LOADS_FIRST,
+            &numbers(draft.tables(), &LOADS_FIRST),
             &mut sheet,
             &mut codes,
         )?;
         assert!(rt; made == Ok(6));
-        let calls = [
-            call(codes[0]),
-            call(codes[1]),
-            call(codes[2]),
-            call(codes[3]),
-            call(codes[4]),
-            call(codes[5]),
-        ];
+        let calls = codes.map(call);
         let mut answers = [9; 128];
         let ended = play(
             draft,

@@ -5,7 +5,6 @@ ghost use Rattle.machine.specs.Machines.{state_of, program_of};
 ghost use Rattle.machine.specs.Tests.{Issuable, Drainable};
 
 use super::Machine;
-use crate::spots::place_of;
 use faults::Fault;
 use rules::wait::WaitRule;
 use tables::line::Line;
@@ -71,7 +70,7 @@ impl Machine {
             return Err(Fault::DrainWaits(m % LINES + 1));
         }
         if let Some(swap) = self.inner.half {
-            if place_of(swap) != n {
+            if swap.at.place() != n {
                 return Err(Fault::SwapHalfDone(u32::from(swap) as usize));
             }
         }

@@ -10,7 +10,6 @@ ghost use Rattle.machine.specs.Endings.{order_of};
 use super::Machine;
 use crate::ended::Ended;
 use crate::inner::Inner;
-use crate::spots::place_of;
 use tables::tables::Tables;
 use tables::{PLACES, PROCESSORS};
 
@@ -31,7 +30,7 @@ impl Machine {
         ensures tables { lines_of self.new ≡ lines_of self.old }
     {
         if let Some(swap) = self.inner.half {
-            self.put_drain(place_of(swap));
+            self.put_drain(swap.at.place());
         }
     }
 
@@ -40,6 +39,7 @@ impl Machine {
         ensures state { state_of self.new ≡ sweep (cell_at unit (lines_of self.old)) (state_of self.old) 128 }
         ensures tables { lines_of self.new ≡ lines_of self.old }
     {
+        // A loop, since each drain changes the machine that the next place is asked of.
         for n in 0..PLACES {
             if self.holds(n) {
                 self.put_drain(n);

@@ -6,7 +6,6 @@ ghost use Rattle.model.specs.Machine.{blocker, source};
 ghost use Rattle.machine.specs.Machines.{state_of, lines_of, program_of};
 
 use super::Machine;
-use crate::spots::place_of;
 use model::waiting::waits;
 use rules::wait::WaitRule;
 use tables::LINES;
@@ -40,7 +39,7 @@ impl Machine {
         ensures within { IfSome result (λ j. j < 128) }
         ensures value { result ≡ (state_of self.now).last cell }
     {
-        self.inner.last[cell as usize].map(place_of)
+        self.inner.last[cell as usize].map(|write| write.at.place())
     }
 
     // The line whose write a read of line n takes its word from.

@@ -1,4 +1,5 @@
-// What a call writes once nothing refuses it.
+// What a call writes once nothing refuses it. That the tables stay is a clause each time: it speaks of before and after, and no
+// invariant can.
 ghost use Rattle.std.specs.Prelude.{◌≡◌, ◌/◌, ◌%◌, ◌<◌, true, slice_index};
 ghost use Rattle.tables.specs.Size.{unit};
 ghost use Rattle.tables.specs.Lines.{reads, writes};
@@ -45,6 +46,7 @@ impl Machine {
     {
         let read = event_of(n, Side::Read);
         self.inner.issued[n / LINES] += 1;
+        // Each kind of line does something of its own.
         match kind {
             Kind::Load => {
                 self.inner.append(read.into());

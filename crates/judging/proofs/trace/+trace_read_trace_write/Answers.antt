@@ -1,5 +1,6 @@
-use Rattle.std.proofs.Common.{◌/◌, ◌%◌, sym, refl, ap, ap₂, add-one, arith}
-use Rattle.tables.specs.Size.{table, row}
+use Rattle.std.proofs.Common.{◌≡◌, sym, refl, ap, add-one, arith, rules}
+use Rattle.tables.specs.Size.{unit}
+use Rattle.tables.specs.LineIds.{line_id}
 use Rattle.tables.proofs.Goods.{good}
 use Rattle.rules.specs.declared.words.Origin.TheVariants.{Start, Line}
 use Rattle.model.specs.Trace.{at_start, at_write, at_end, at_copy}
@@ -44,11 +45,11 @@ trace_write-trace_read-requires t c =
     (let q = c.decreases in let a = ap (reach (order_of p)) e in omega arith, d.2)
 
 pub trace_write-returns-in-None : goal.trace_write-returns-in-None
-unfolding table row
-trace_write-returns-in-None t c = record {
-  is = λ w. at_end (sym c.in-None.ensures) (ap₂ Line (add-one (c.args.m / 32)) (add-one (c.args.m % 32))) refl;
-  few = omega arith;
-}
+trace_write-returns-in-None t c =
+    let e : c.unwrap.result ≡ line_id unit c.args.m = search rules in record {
+      is = λ w. at_end (sym c.in-None.ensures) (ap Line e) refl;
+      few = omega arith;
+    }
 
 pub trace_write-returns-in-Some : goal.trace_write-returns-in-Some
 trace_write-returns-in-Some t c =

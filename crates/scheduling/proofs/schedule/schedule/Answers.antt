@@ -1,18 +1,17 @@
-use Rattle.std.proofs.Common.{◌≡◌, ℕ, length, get_or, Result, refl, ap, subst, arith}
+use Rattle.std.proofs.Common.{◌≡◌, length, get_or, Result, refl, subst, arith}
 use Rattle.std.proofs.lemmas.Result.{err_from_is_err_and}
-use Rattle.faults.specs.declared.Fault.TheVariants.{OutputShort}
 use Rattle.tables.specs.Contents.{contents}
 use Rattle.tables.specs.Size.{unit}
 use Rattle.tables.proofs.Goods.{good}
 use Rattle.model.specs.declared.verdict.Breach.{Breach}
-use Rattle.model.specs.Program.{program}
+use Rattle.model.specs.Program.{program, words_of}
 use Rattle.model.proofs.Promises.{axioms_reached_by_schedule_lem, schedule_length}
 use Rattle.judging.specs.Case.{Case, case, MeetsSix, VerdictOn}
-use Rattle.judging.specs.Words.{kind_of, words_on}
+use Rattle.judging.specs.Words.{words_on}
 use Rattle.judging.proofs.Beyond.{event_low}
 use Rattle.judging.proofs.Passings.{events_listed}
 use Rattle.scheduling.specs.Calls.{needed}
-use Rattle.scheduling.specs.Scheduled.{refused, short}
+use Rattle.scheduling.specs.Scheduled.{refused}
 use Rattle.scheduling.proofs.Answering.{holds_calls, written_exactly}
 use Rattle.scheduling.proofs.schedule.schedule.Goals as goal
 
@@ -21,39 +20,16 @@ returns-in_err-breach-clause-answer g c =
     let p = err_from_is_err_and c.from_residual.result c.from_residual.ensures.1 in
     rw (p.1, p.2) (refused c.in_err-breach.ensures.answer, refl)
 
-pub returns-in-Err-clause-answer : goal.returns-in-Err-clause-answer
-returns-in-Err-clause-answer g c =
-    let xs = c.args.sheet.now.places.now in
-    let C : Case g.K.WordKind.Meaning =
-    case g.R.WaitRule.waits g.K.WordKind.meaning g.K.WordKind.starts g.K.WordKind.writtens
-    (contents c.args.tables.now) c.args.order.now xs in
-    let a = c.in_ok-breach.ensures.answer in
-    let b = c.in-Err in
-    (a.0, (subst (λ (v : Result Unit Breach). VerdictOn C v) b.is a.1, refl))
-
-pub returns-then-output-needed-clause-answer : goal.returns-then-output-needed-clause-answer
-returns-then-output-needed-clause-answer g c =
-    let t = contents c.args.tables.now in
-    let w = g.R.WaitRule.waits in
-    let xs = c.args.sheet.now.places.now in
-    let C : Case g.K.WordKind.Meaning =
-    case w g.K.WordKind.meaning g.K.WordKind.starts g.K.WordKind.writtens t c.args.order.now xs in
-    let a = c.in_ok-breach.ensures.answer in
-    let n = c.calls_needed-needed.result in
-    let e : n ≡ needed (program unit w t) = c.calls_needed-needed.ensures w in
-    let l = c.if-output-needed.true in
-    (short a.0 (subst (λ (v : Result Unit Breach). VerdictOn C v) c.in_default.is a.1) (omega (arith, e, l)) (ap (λ (m : ℕ). OutputShort m) e), refl)
-
 pub write_calls-requires : goal.write_calls-requires
 write_calls-requires g c =
-    let t = c.args.tables.now in
+    let t = c.args.proposal.now.tables.now in
     let ts = contents t in
     let w = g.R.WaitRule.waits in
-    let K = kind_of g.K.WordKind.starts g.K.WordKind.writtens in
-    let o = c.args.order.now in
+    let K = words_of g.K.WordKind in
+    let o = c.args.proposal.now.order.now in
     let xs = c.args.sheet.now.places.now in
-    let words = words_on g.K.WordKind.meaning g.K.WordKind.starts xs in
-    let C : Case g.K.WordKind.Meaning = case w g.K.WordKind.meaning g.K.WordKind.starts g.K.WordKind.writtens ts o xs in
+    let words = words_on g.K.WordKind xs in
+    let C : Case g.K.WordKind.Meaning = case w g.K.WordKind ts o xs in
     let a = c.in_ok-breach.ensures.answer in
     let S : MeetsSix C = subst (λ (v : Result Unit Breach). VerdictOn C v) c.in_default.is a.1 in
     let l = schedule_length w g.met.R.WaitRule.ordered K unit ts (good t) o words (a.0.listed, S) in
@@ -64,14 +40,14 @@ write_calls-requires g c =
 
 pub returns : goal.returns
 returns g c =
-    let t = c.args.tables.now in
+    let t = c.args.proposal.now.tables.now in
     let ts = contents t in
     let w = g.R.WaitRule.waits in
-    let K = kind_of g.K.WordKind.starts g.K.WordKind.writtens in
-    let o = c.args.order.now in
+    let K = words_of g.K.WordKind in
+    let o = c.args.proposal.now.order.now in
     let xs = c.args.sheet.now.places.now in
-    let words = words_on g.K.WordKind.meaning g.K.WordKind.starts xs in
-    let C : Case g.K.WordKind.Meaning = case w g.K.WordKind.meaning g.K.WordKind.starts g.K.WordKind.writtens ts o xs in
+    let words = words_on g.K.WordKind xs in
+    let C : Case g.K.WordKind.Meaning = case w g.K.WordKind ts o xs in
     let a = c.in_ok-breach.ensures.answer in
     let S : MeetsSix C = subst (λ (v : Result Unit Breach). VerdictOn C v) c.in_default.is a.1 in
     let l = schedule_length w g.met.R.WaitRule.ordered K unit ts (good t) o words (a.0.listed, S) in
@@ -81,5 +57,4 @@ returns g c =
       exactly = written_exactly C (length xs) (length c.args.output.now) c.write_calls.result H.all H.room;
       reached = λ sheet wide. axioms_reached_by_schedule_lem w g.met.R.WaitRule.ordered K unit ts (good t) sheet wide o words (a.0.listed, S);
       same = c.judge.ensures.same;
-      named = c.judge.ensures.named;
     }

@@ -14,34 +14,26 @@ use Rattle.judging.proofs.complete.Complete.first_wrong.Goals as goal
 pub loop-n-preserved : goal.loop-n-preserved
 loop-n-preserved g c =
     let C : Waits → Sheet g.row.K-Word.Denot → Case g.K.WordKind.Meaning = λ w x.
-    case w g.K.WordKind.meaning g.K.WordKind.starts g.K.WordKind.writtens (contents c.args.self.now.standing.tables.now) c.args.self.now.standing.order.now x.places.now in (
+    case w g.K.WordKind (contents c.args.self.now.standing.tables.now) c.args.self.now.standing.order.now x.places.now in (
       c.check_read.ensures.same ∙ c.loop-n.invariant.0,
       λ w.
           below_more (λ j. Right (C w c.args.sheet.now) j) c.loop-n.n (c.loop-n.invariant.1 w)
           (subst (λ (x : Sheet g.row.K-Word.Denot). Right (C w x) c.loop-n.n) c.loop-n.invariant.0 (c.in_default.ensures.checked w)),
     )
 
-pub returns-in-Some : goal.returns-in-Some
-returns-in-Some g c =
+pub returns-in-Some-clause-checked : goal.returns-in-Some-clause-checked
+returns-in-Some-clause-checked g c =
     let C : Waits → Sheet g.row.K-Word.Denot → Case g.K.WordKind.Meaning = λ w x.
-    case w g.K.WordKind.meaning g.K.WordKind.starts g.K.WordKind.writtens (contents c.args.self.now.standing.tables.now) c.args.self.now.standing.order.now x.places.now in
-    record {
-      checked = λ w. (
-        subst (λ (x : Sheet g.row.K-Word.Denot). Wrong (C w x) c.loop-n.n c.in-Some.source) c.loop-n.invariant.0 (c.in-Some.ensures.checked w),
-        c.loop-n.invariant.1 w,
-      );
-      within = (omega arith, c.in-Some.ensures.within);
-      same = c.check_read.ensures.same ∙ c.loop-n.invariant.0;
-    }
+    case w g.K.WordKind (contents c.args.self.now.standing.tables.now) c.args.self.now.standing.order.now x.places.now in
+    λ w. (
+      subst (λ (x : Sheet g.row.K-Word.Denot). Wrong (C w x) c.loop-n.n c.in-Some.source) c.loop-n.invariant.0 (c.in-Some.ensures.checked w),
+      c.loop-n.invariant.1 w,
+    )
 
-pub returns : goal.returns
-returns g c =
+pub returns-clause-checked : goal.returns-clause-checked
+returns-clause-checked g c =
     let t = c.args.self.now.standing.tables.now in
-    record {
-      checked = λ w n. elim (cases_lt n 128) [
-        | inl l ↦ c.loop-n.invariant.1 w n (omega arith)
-        | inr l ↦ λ s r _. absurd (both_ways (reads_at unit (contents t) n) (past_reads (contents t) (good t).tables n l) r)
-      ];
-      within = tt;
-      same = c.loop-n.invariant.0;
-    }
+    λ w n. elim (cases_lt n 128) [
+      | inl l ↦ c.loop-n.invariant.1 w n (omega arith)
+      | inr l ↦ λ s r _. absurd (both_ways (reads_at unit (contents t) n) (past_reads (contents t) (good t).tables n l) r)
+    ]

@@ -10,6 +10,6 @@ invariant-loop-n g l =
     (l.sheet ≡ l.initial.sheet)
     × ((w : Waits) (j : ℕ) → j < l.n
     → Right
-    (case w g.K.WordKind.meaning g.K.WordKind.starts g.K.WordKind.writtens (contents l.self.standing.tables.now) l.self.standing.order.now
+    (case w g.K.WordKind (contents l.self.standing.tables.now) l.self.standing.order.now
     l.initial.sheet.places.now)
     j)

@@ -1,4 +1,4 @@
-use Rattle.std.proofs.Common.{◌≡◌, ℕ, ◌+◌, ◌*◌, ◌/◌, ◌<◌, Option, sym, subst, arith}
+use Rattle.std.proofs.Common.{◌≡◌, ℕ, ◌+◌, ◌/◌, ◌<◌, Option, sym, subst, arith}
 use Rattle.tables.specs.Contents.{contents}
 use Rattle.tables.specs.Size.{unit, table}
 use Rattle.tables.proofs.Goods.{good}
@@ -12,13 +12,6 @@ pub last_before-best-requires : goal.last_before-best-requires
 last_before-best-requires c =
     let t = c.args.self.now.standing.tables.now in
     reads_low (contents t) (good t).tables c.args.n c.requires
-
-pub loop-m-init : goal.loop-m-init
-loop-m-init c = (
-  best_within (contents c.args.self.now.standing.tables.now) c.args.self.now.standing.order.now c.args.n (c.args.n / 32 * 32) c.last_before-best.result
-      c.last_before-best.ensures,
-  c.last_before-best.ensures,
-)
 
 pub loop-m-preserved : goal.loop-m-preserved
 unfolding table
@@ -50,11 +43,11 @@ is_later-requires c =
     let line = reads_low (contents t) (good t).tables c.args.n c.requires in
     (c.loop-m.invariant.0, omega arith)
 
-pub returns : goal.returns
-returns c =
+pub returns-clause-should : goal.returns-clause-should
+returns-clause-should c =
     let ts = contents c.args.self.now.standing.tables.now in
     let o = c.args.self.now.standing.order.now in
     let n = c.args.n in
     let q : c.loop-m.m ≡ n = omega arith in
     let b = subst (λ (k : ℕ). Best unit ts o n k c.loop-m.best) q c.loop-m.invariant.1 in
-    record { should = λ w. best_should ts o c.args.self.now.settled w n c.requires c.loop-m.best b; within = c.loop-m.invariant.0 }
+    λ w. best_should ts o c.args.self.now.settled w n c.requires c.loop-m.best b

@@ -1,30 +1,15 @@
-use Rattle.std.proofs.Common.{◌≡◌, ◌+◌, ◌<◌, true, false, sym, arith, rules}
-use Rattle.std.proofs.lemmas.Iterator.{first_from_Range, serves_from_Range}
+use Rattle.std.proofs.Common.{◌≡◌, true, false, sym, arith, rules}
+use Rattle.std.proofs.lemmas.Iterator.{first_from_Range}
 use borrow.Author.Tests.{tests}
 use Rattle.tables.specs.Contents.{contents}
 use Rattle.tables.specs.Size.{unit}
 use Rattle.tables.proofs.Goods.{good}
 use Rattle.judging.specs.Tests.{swap_bad, writes_between}
 use Rattle.judging.proofs.Beyond.{past_write}
-use Rattle.judging.proofs.Scans.{swap_even, swap_none, swap_here, swap_not, past_between}
+use Rattle.judging.proofs.Scans.{swap_none, swap_here, swap_not, past_between}
 use Rattle.judging.proofs.Lowest.{lowest_from}
 use Rattle.judging.proofs.standing.Standing.swap_row.Goals as goal
 use Rattle.judging.proofs.standing.Standing.swap_row.Goals.{then-not-is_swap-via-then-not-is_swap, then-not-is_swap-via-else-not-is_swap+then-is_close}
-
-pub is_close-requires : goal.is_close-requires
-is_close-requires c =
-    let even =
-    swap_even (contents c.args.self.now.tables.now) c.args.self.now.order.now c.args.e (sym c.if-not-is_swap.ensures) in
-    let x = c.requires in
-    omega arith
-
-pub find-requires-clause-callable : goal.find-requires-clause-callable
-find-requires-clause-callable c =
-    let even =
-    swap_even (contents c.args.self.now.tables.now) c.args.self.now.order.now c.args.e (sym c.if-not-is_swap.ensures) in
-    let x = c.requires in
-    let z : c.args.e + 1 < 256 = omega arith in
-    serves_from_Range (λ f q k. search rules) (λ f l u. search (rules, z))
 
 pub returns-then-not-is_swap : goal.returns-then-not-is_swap
 returns-then-not-is_swap c =

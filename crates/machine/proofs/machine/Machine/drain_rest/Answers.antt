@@ -4,13 +4,13 @@ use Rattle.tables.specs.Size.{unit}
 use Rattle.tables.specs.Rows.{Rows}
 use Rattle.tables.specs.View.{cell_at}
 use Rattle.model.specs.Machine.{after_drain}
+use Rattle.model.proofs.Sweeps.{sweep_none, sweep_more}
 use Rattle.machine.specs.Machines.{state_of, lines_of}
-use Rattle.machine.proofs.Sweeps.{sweep_none, sweep_more}
 use Rattle.machine.proofs.machine.Machine.drain_rest.Goals as goal
 use Rattle.machine.proofs.machine.Machine.drain_rest.Goals.{then-holds, else-holds}
 
 pub loop-n-init : goal.loop-n-init
-loop-n-init c = let m = c.args.self.now in (sweep_none (cell_at unit (lines_of m)) (state_of m), refl)
+loop-n-init c = let m = c.args.self.now in (sym (sweep_none (cell_at unit (lines_of m)) (state_of m)), refl)
 
 pub loop-n-preserved : goal.loop-n-preserved
 loop-n-preserved c =

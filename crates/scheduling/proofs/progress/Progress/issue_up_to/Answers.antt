@@ -1,7 +1,8 @@
 use Rattle.std.proofs.Common.{◌≡◌, ℕ, suc, ◌+◌, ◌-◌, ◌≤◌, List, length, get_or, ap, ◌∙◌, arith, length-set, rules}
 use Rattle.model.specs.Schedule.{fill}
 use Rattle.scheduling.specs.Calls.{issued_by}
-use Rattle.scheduling.proofs.Making.{more_self, none_more, one_issued, put_nothing, put_issue, issues_end}
+use Rattle.model.proofs.Schedules.{more_self}
+use Rattle.scheduling.proofs.Making.{none_more, one_issued, put_nothing, put_issue, issues_end}
 use Rattle.scheduling.proofs.progress.Progress.issue_up_to.Goals as goal
 
 pub loop-self-init : goal.loop-self-init

@@ -1,25 +1,23 @@
-use Rattle.std.proofs.Common.{◌≡◌, ℕ, ◌+◌, ◌/◌, ◌%◌, ◌<◌, Some, sym, subst, arith, rules}
+use Rattle.std.proofs.Common.{◌≡◌, ℕ, ◌/◌, ◌<◌, Some, sym, subst, rules}
 use Rattle.tables.specs.declared.event.Side.{Side}
-use Rattle.tables.specs.Size.{unit, number, table, row, places}
-use Rattle.tables.specs.Events.{codes, side_of, event_of, Named}
-use Rattle.tables.proofs.Codes.{made, code_named, code_of_named, event_is}
+use Rattle.tables.specs.declared.event.Event.{Event}
+use Rattle.tables.specs.declared.line_id.LineId.{LineId}
+use Rattle.tables.specs.Size.{unit, places}
+use Rattle.tables.specs.LineIds.{line_id}
+use Rattle.tables.specs.Events.{codes, side_of, Named}
+use Rattle.tables.proofs.Codes.{made, made_same, code_named, code_of_named}
 use Rattle.tables.proofs.event.EventTryFromU32.try_from.Goals as goal
 
-pub returns-then-code-ge-EVENTS : goal.returns-then-code-ge-EVENTS
-unfolding number table row places
-returns-then-code-ge-EVENTS c = record { value = search rules; back = search rules }
+pub returns-in_err-at : goal.returns-in_err-at
+unfolding places
+returns-in_err-at c = record { value = search rules; back = search rules }
 
-named :
-    (c : ℕ) (s : Side) → c < codes unit → s ≡ side_of c
-    → (Some (made (c / 2 / 32 + 1) (c / 2 % 32 + 1) s) ≡ event_of unit c) × Named unit c (Some (made (c / 2 / 32 + 1) (c / 2 % 32 + 1) s))
-unfolding table row
-named c s h e =
-    let P : Side → Type 0 = λ x.
-    (Some (made (c / 2 / 32 + 1) (c / 2 % 32 + 1) x) ≡ event_of unit c) × Named unit c (Some (made (c / 2 / 32 + 1) (c / 2 % 32 + 1) x)) in
-    subst P (sym e) (sym (event_is unit c h), (code_named unit c h, code_of_named unit c))
+named : (c : ℕ) (l : LineId) (s : Side) → c < codes unit → l ≡ line_id unit (c / 2) → s ≡ side_of c → Named unit c (Some (made l s))
+named c l s h p q = subst (λ (e : Event). Named unit c (Some e)) (sym (made_same l _ s _ p q)) (code_named unit c h, code_of_named unit c)
 
 pub returns : goal.returns
 unfolding places
-returns c =
-    let n = named c.args.code c.of_code.result (omega arith) c.of_code.ensures in
-    record { value = n.0; back = n.1 }
+returns c = record {
+  value = search rules;
+  back = named c.args.code c.in_ok-at.at c.of_code.result (search rules) (search rules) c.of_code.ensures;
+}

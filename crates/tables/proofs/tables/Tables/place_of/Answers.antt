@@ -1,11 +1,11 @@
-use Rattle.std.proofs.Common.{◌≡◌, ℕ, suc, zero, ◌+◌, ◌-◌, ◌*◌, ◌<◌, ◌≤◌, List, [], ◌∷◌, length, get_or, IsSome, sym, ap, subst, ◌∙◌, arith, rules}
+use Rattle.std.proofs.Common.{◌≡◌, ℕ, suc, zero, ◌+◌, ◌-◌, ◌*◌, ◌<◌, ◌≤◌, List, [], ◌∷◌, length, get_or, IsSome, sym, subst, arith, rules}
 use Rattle.tables.specs.declared.line.Line.{Line}
-use Rattle.tables.specs.Size.{unit, number, row}
+use Rattle.tables.specs.Size.{unit, number}
 use Rattle.tables.specs.Lines.{nth}
 use Rattle.tables.specs.Rows.{Rows, empty}
 use Rattle.tables.specs.Contents.{contents}
 use Rattle.tables.specs.View.{line_at}
-use Rattle.tables.proofs.Numbering.{table_number, row_number}
+use Rattle.tables.proofs.Numbering.{line_of_row}
 use Rattle.tables.proofs.Goods.{good}
 use Rattle.tables.proofs.tables.Tables.place_of.Goals as goal
 
@@ -19,13 +19,7 @@ unfolding number
 number_is q l a = omega arith
 
 found : (ts : List Rows) (q l : ℕ) → 1 ≤ l → l ≤ 32 → l ≤ length (get_or ts q empty).lines → IsSome (line_at unit ts (number unit q (l - 1)))
-found ts q l a b h =
-    let n = number unit q (l - 1) in
-    let tk = table_number unit q (l - 1) (omega arith) in
-    let rk = row_number unit q (l - 1) (omega arith) in
-    let here : line_at unit ts n ≡ nth (get_or ts q empty).lines (l - 1) =
-    ap (λ (p : ℕ). nth (get_or ts p empty).lines (row unit n)) tk ∙ ap (λ (k : ℕ). nth (get_or ts q empty).lines k) rk in
-    subst IsSome (sym here) (nth_some (get_or ts q empty).lines (l - 1) (omega arith))
+found ts q l a b h = subst IsSome (sym (line_of_row unit ts q (l - 1) (omega arith))) (nth_some (get_or ts q empty).lines (l - 1) (omega arith))
 
 pub returns-clause-place : goal.returns-clause-place
 unfolding number
