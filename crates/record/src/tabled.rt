@@ -20,6 +20,7 @@ pub(crate) struct Reading {
     pub claims: [Option<u32>; PLACES],
 }
 
+// A table is a plain number, bounded in each contract: it comes from the loop over all of them.
 impl Reading {
     // Nothing is read yet.
     fn new(draft: Draft) -> Reading
@@ -69,6 +70,7 @@ impl Reading {
 }
 
 // Bytes and a place in them come as they are where the whole record is meant; within a section they are a `Part`.
+
 // Reads the sections of all tables from `at` on into the room of the draft, and gives the place after them.
 pub(crate) fn read_tables(draft: Draft, bytes: &[u8], at: usize) -> Result<(Reading, usize), Fault>
     ensures { MatchResult result

@@ -23,6 +23,7 @@ pub const MARK: &[u8] = b"SOR1";
 /// How many bytes a record has at most.
 pub const LONGEST: usize = 4096;
 
+// A count beside the output, since `read` takes a slice of any length and tells how much of it the order is.
 /// What a record says besides its claims and its order: the rule, the tables, and how many events the order has.
 #[derive(Drop)]
 pub struct Contents {

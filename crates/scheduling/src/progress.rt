@@ -16,6 +16,7 @@ struct Progress {
     count: usize,
 }
 
+// Table and row are plain numbers, bounded in the contract: they are computed from an event's code.
 impl Progress {
     // Writes the code of one call behind those before it.
     fn put(&mut self, output: &mut [u32], code: u32)
