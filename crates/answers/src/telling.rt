@@ -8,7 +8,7 @@ ghost use Rattle.answers.specs.Ruling.{waits_of};
 ghost use Rattle.model.specs.Program.{program};
 ghost use Rattle.judging.specs.Case.{case, Answered};
 ghost use Rattle.judging.specs.Outcomes.{IfPassed, rows_of, order_of};
-ghost use Rattle.answers.specs.Accounts.{number_words, AccountOf, AllAccounts, AnswersBytes};
+ghost use Rattle.answers.specs.Accounts.{number_words, AccountOf, AllAccounts, AnswersTo, AnswersBytes};
 
 use crate::text::{Account, Answer};
 use faults::Fault;
@@ -38,15 +38,32 @@ pub fn answer(heap: Global, bytes: &[u8]) -> Result<Answer, AllocError>
     let mut sheet = Sheet::over(&mut words);
     match read(draft, bytes, &mut sheet, &mut codes) {
         Err(fault) => Ok(Answer::Refused(fault)),
-        Ok(contents) => {
-            // A count beside the codes, since `read` takes a slice of any length and tells how much of it the order is.
-            let order = &codes[..contents.count];
-            match judged_by(contents.rule, contents.draft.tables(), order, &mut sheet) {
-                Err(fault) => Ok(Answer::Refused(fault)),
-                Ok(Err(breach)) => Ok(Answer::Broken(breach)),
-                Ok(Ok(passing)) => Ok(Answer::Passes(told(&passing, accounts))),
-            }
-        }
+        // A count beside the codes, since `read` takes a slice of any length and tells how much of it the order is.
+        Ok(contents) => Ok(answered(
+            contents.rule,
+            contents.draft.tables(),
+            &codes[..contents.count],
+            &mut sheet,
+            accounts,
+        )),
+    }
+}
+
+// The answer to an order under the rule that a record names. Apart from reading, so that a refused record makes no room for traces.
+fn answered(
+    rule: Rule,
+    tables: &Tables,
+    order: &[u32],
+    sheet: &mut Sheet<u32>,
+    accounts: Vec<Account>,
+) -> Answer
+    requires { 128 ≤ vec_capacity accounts }
+    ensures { AnswersTo (waits_of rule) (contents tables.now) order.now sheet.old.places.now result }
+{
+    match judged_by(rule, tables, order, sheet) {
+        Err(fault) => Answer::Refused(fault),
+        Ok(Err(breach)) => Answer::Broken(breach),
+        Ok(Ok(passing)) => Answer::Passes(told(&passing, accounts)),
     }
 }
 

@@ -129,10 +129,10 @@ module _ (ts : List Rows) (o : List ℕ) (n i : ℕ)
     ]
   ]
 
-  scan_none : i ≡ 0 → (j : ℕ) → concerns_to unit ts o n (n / 32 * 32) j ≡ false
+  pub scan_none : i ≡ 0 → (j : ℕ) → concerns_to unit ts o n (n / 32 * 32) j ≡ false
   scan_none q j = not_near ts o n (n / 32 * 32) j (λ h. let z = before_seen j h in omega arith)
 
-  scan_found :
+  pub scan_found :
       (h : ℕ) → i ≡ suc h → h < place o (rd n) → times o (get_or o h 0) ≤ 1 → get_or o h 0 % 2 ≡ 1
       → writes_cell unit ts n (get_or o h 0 / 2) ≡ true → get_or o h 0 / 2 < 128 → Best unit ts o n (n / 32 * 32) (Some (get_or o h 0 / 2))
   scan_found h q l t odd w low =

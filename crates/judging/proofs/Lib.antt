@@ -9,3 +9,4 @@ pub mod Lowest
 pub mod Deciding
 pub mod Tracing
 pub mod Passings
+pub mod Asking

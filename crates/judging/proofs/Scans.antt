@@ -6,6 +6,7 @@ use Rattle.tables.specs.Rows.{Rows}
 use Rattle.tables.specs.View.{line_at, is_read, is_write, is_event}
 use Rattle.rules.specs.Waits.{Waits, waits_at}
 use Rattle.model.proofs.Positions.{place, place_le}
+use Rattle.judging.specs.Standings.{AheadInTable}
 use Rattle.judging.specs.Tests.{waits_here, swaps_here, writes_between, load_bad, wait_bad, swap_bad}
 use Rattle.judging.proofs.Locating.{at_place}
 
@@ -41,9 +42,18 @@ module _ (ts : List Rows) (o : List ℕ) (e : ℕ) where
         | inr p ↦ and_right (is_event unit ts f) _ (lt-leb (place o f) (place o e) p)
       ])))
 
+  pub load_ahead : AheadInTable o e → (f : ℕ) → load_bad unit ts o e f ≡ false
+  load_ahead h f = elim (cases_lt e f) [
+    | inl l ↦ elim (cases_lt f ((e / 64 + 1) * 64)) [ inl u ↦ load_not f (inr (h f l u)) | inr u ↦ load_late f u ]
+    | inr l ↦ load_early f l
+  ]
+
   pub swap_none : swaps_here unit ts e ≡ false → (f : ℕ) → swap_bad unit ts o e f ≡ false
   unfolding swap_bad
   swap_none h f = and_left (swaps_here unit ts e) _ h
+
+  pub swap_even : swaps_here unit ts e ≡ true → e % 2 ≡ 0
+  swap_even h = eqb-true (e % 2) 0 (and_parts (eqb (e % 2) 0) _ (and_parts (is_read unit ts e) _ h).0).0
 
   pub swap_here : (f : ℕ) → swaps_here unit ts e ≡ true → writes_between unit ts o e f ≡ true → swap_bad unit ts o e f ≡ true
   unfolding swap_bad
@@ -117,3 +127,9 @@ module _ (ts : List Rows) (o : List ℕ) (e : ℕ) where
             | inr x ↦ and_right (leb (place o f) (place o e)) _ x
           ])
         ])))
+
+    pub wait_ahead : AheadInTable o e → (f : ℕ) → wait_bad unit ts o w e f ≡ false
+    wait_ahead h f = elim (cases_lt e f) [
+      | inl l ↦ elim (cases_lt f ((e / 64 + 1) * 64)) [ inl u ↦ wait_not f (inr (inl (h f l u))) | inr u ↦ wait_late f u ]
+      | inr l ↦ wait_early f l
+    ]

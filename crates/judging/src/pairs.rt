@@ -1,8 +1,9 @@
 // Pairs of events of one table that should stand in a sequence and do not: LoadOp and Wait.
-ghost use Rattle.std.specs.Prelude.{◌≡◌, ◌+◌, ◌*◌, ◌/◌, ◌<◌};
+ghost use Rattle.std.specs.Prelude.{◌≡◌, ◌+◌, ◌*◌, ◌/◌, ◌<◌, true};
 ghost use Rattle.tables.specs.Contents.{contents};
 ghost use Rattle.tables.specs.Size.{unit};
 ghost use Rattle.judging.specs.Searches.{Lowest, LowestPair};
+ghost use Rattle.judging.specs.Standings.{AheadInTable};
 ghost use Rattle.judging.specs.Tests.{load_bad, wait_bad, waits_here};
 
 use crate::rows::lowest_pair;
@@ -28,12 +29,26 @@ fn is_waiter(tables: &Tables, f: usize) -> bool
 }
 
 impl<'a> Standing<'a> {
+    // Whether all later events of its table stand after the event `e`. It is quick, and enough to pass a row by.
+    fn is_ahead(&self, e: usize) -> bool
+        requires { e < 256 }
+        ensures { result ≡ true → AheadInTable self.now.order.now e }
+    {
+        let place = self.stands[e].place;
+        self.stands[e + 1..past_table(e)]
+            .iter()
+            .all(|stand| place < stand.place)
+    }
+
     // The lowest event before which the read `e` should stand, and does not. Only its own table can have one.
     fn load_row(&self, e: usize) -> Option<usize>
         requires { e < 256 }
         ensures { Lowest (load_bad unit (contents self.now.tables.now) self.now.order.now e) result }
     {
         if !self.tables.is_read(e) {
+            return None;
+        }
+        if self.is_ahead(e) {
             return None;
         }
         let place = self.stands[e].place;
@@ -53,6 +68,9 @@ impl<'a> Standing<'a> {
         ensures { Lowest (wait_bad unit (contents self.now.tables.now) self.now.order.now R.WaitRule.waits e) result }
     {
         if !self.tables.is_write(e) {
+            return None;
+        }
+        if self.is_ahead(e) {
             return None;
         }
         let place = self.stands[e].place;

@@ -39,6 +39,7 @@ pub blank_sound : (t : Tables) (o : ArrayVec ℕ) → o.items ≡ [] → Sound (
 blank_sound t o p = record {
   few = λ q. let a = all_same {A = ℕ} 4 0 q in omega arith;
   room = let a = none_held 128 in let b = ap length p in omega arith;
+  fits = let b = ap length p in omega arith;
   issued = λ n h. absurd (not_held n h);
   half = λ e q. let x : ◌≡◌ {A = ℕ} 0 1 = cc in let y : ⊥ = omega arith in absurd y;
   halfway = λ e q. let x : ◌≡◌ {A = ℕ} 0 1 = cc in let y : ⊥ = omega arith in absurd y;

@@ -40,6 +40,7 @@ module _ (m : Inner) (z : Sized m) (s : Sound m) (n : ℕ) (l : n < 128) (h : is
     drain_sound = record {
       few = s.few;
       room = let a = count_drained m.marks n (omega arith) h in let b = s.room in omega (arith, length-append m.order.items (code ∷ []));
+      fits = let a = drain_room in omega (arith, length-append m.order.items (code ∷ []));
       issued = λ k e. elim (cases_eq k n) [
         | inl q ↦ absurd (both_ways (is_held (get_or (set m.marks n Done) k Waiting))
             (ap is_held (subst (λ (x : ℕ). get_or (set m.marks n Done) x Waiting ≡ Done) (sym q) (get_or-set_same m.marks n Done Waiting (omega arith)))) e)
@@ -143,6 +144,7 @@ module _ (m : Inner) (z : Sized m) (s : Sound m) (n : ℕ) (l : n < 128) (next :
   load_sound code = record {
     few = few';
     room = let a = count_done m.marks n inside_marks in let b = sum_bump m.issued (n / 32) inside_issued in let c = s.room in omega (arith, length-append m.order.items (code ∷ []));
+    fits = let a = issue_room in omega (arith, length-append m.order.items (code ∷ []));
     issued = held' Done;
     half = s.half;
     halfway = half' Done;
@@ -154,6 +156,7 @@ module _ (m : Inner) (z : Sized m) (s : Sound m) (n : ℕ) (l : n < 128) (next :
   store_sound = record {
     few = few';
     room = let a = count_more m.marks n inside_marks in let b = sum_bump m.issued (n / 32) inside_issued in let c = s.room in omega arith;
+    fits = s.fits;
     issued = held' Held;
     half = s.half;
     halfway = half' Held;
@@ -165,6 +168,7 @@ module _ (m : Inner) (z : Sized m) (s : Sound m) (n : ℕ) (l : n < 128) (next :
   swap_sound code r at side = record {
     few = few';
     room = let a = count_more m.marks n inside_marks in let b = sum_bump m.issued (n / 32) inside_issued in let c = s.room in omega (arith, length-append m.order.items (code ∷ []));
+    fits = let a = issue_room in omega (arith, length-append m.order.items (code ∷ []));
     issued = held' Held;
     half = λ e q. let x : r ≡ e = cc in let y = ap place_of x in omega arith;
     halfway = λ e q. let x : r ≡ e = cc in

@@ -15,6 +15,10 @@ Few m = (q : ℕ) → slice_index m.issued q ≤ 32
 abbrev pub Room : Inner → Type 0
 Room m = array_vec_len m.order + count_by is_held m.marks ≤ 2 * sum m.issued
 
+-- the order has no more codes than there are events
+abbrev pub Fits : Inner → Type 0
+Fits m = array_vec_len m.order ≤ 256
+
 -- only lines issued are held
 abbrev pub HeldIssued : Inner → Type 0
 HeldIssued m = (n : ℕ) → is_held (slice_index_or m.marks n Waiting) ≡ true → n % 32 < slice_index m.issued (n / 32)
@@ -36,6 +40,7 @@ LastInside m = (c : ℕ) (e : Event) → slice_index_or m.last c None ≡ Some e
 pub record Sound (m : Inner) : Type 0 where
   pub few : Few m
   pub room : Room m
+  pub fits : Fits m
   pub issued : HeldIssued m
   pub half : HalfInside m
   pub halfway : HalfHeld m

@@ -1,4 +1,6 @@
 // What a finished machine leaves.
+ghost use Rattle.std.specs.Prelude.{◌≤◌};
+ghost use Rattle.arrayvec.specs.ArrayVec.{array_vec_len};
 
 use arrayvec::ArrayVec;
 use tables::EVENTS;
@@ -9,6 +11,7 @@ use tables::tables::Tables;
 pub struct Ended {
     pub(crate) order: ArrayVec<u32, EVENTS>,
     pub(crate) tables: Tables,
+    ghost within: { array_vec_len order ≤ 256 },
 }
 
 impl Ended {

@@ -1,7 +1,7 @@
 // The six axioms by name, and what a verdict tells.
 ghost use Rattle.std.specs.Prelude.{◌≡◌, Some};
 ghost use Rattle.model.specs.Verdicts.{number_of};
-ghost use Rattle.model.specs.Text.{axiom_text, breach_text};
+ghost use Rattle.model.specs.Text.{axiom_text, breach_text, verdict_text};
 
 use std::fmt;
 use tables::event::Event;
@@ -60,6 +60,23 @@ impl fmt::Display for Breach {
         match self.second {
             Some(second) => write!(f, "broken {} {} {second}", self.axiom, self.first),
             None => write!(f, "broken {} {} -", self.axiom, self.first),
+        }
+    }
+}
+
+/// A verdict as it is printed. A type of this crate, since only the crate of a type or of a trait may join them, and both
+/// `Display` and `Result` are std's.
+#[derive_where(Clone, Copy)]
+pub struct Shown<'a, T>(pub &'a Verdict<T>);
+
+/// `passes`, or the breach.
+impl<T> fmt::Display for Shown<'_, T> {
+    ghost output = { λ s. Some (verdict_text s.0.now) };
+
+    fn fmt<W: fmt::Write>(&self, f: &mut fmt::Formatter<W>) -> fmt::Result {
+        match self.0 {
+            Ok(_) => f.write_str("passes"),
+            Err(breach) => write!(f, "{breach}"),
         }
     }
 }

@@ -5,7 +5,7 @@ use Rattle.std.proofs.lemmas.List.{drop_all, drop_more, drop-drop, drop_at}
 use Rattle.faults.specs.declared.Fault.{Fault}
 use Rattle.faults.specs.declared.Fault.TheVariants.{NumberEnds, NumberMalformed}
 use Rattle.numbers.specs.Number.{value_of, bound, Goes, Reaches, Stands, Shortest, encoded, encoded_by, Number}
-use Rattle.numbers.specs.Amiss.{capped, Cut, Spoilt, NoNumber, Reads}
+use Rattle.numbers.specs.Amiss.{capped, Cut, Wide, Spoilt, NoNumber, Reads}
 use Rattle.numbers.proofs.Codes.{last, more, size_last, size_more, bound_more, bound_one, bound_five, bound_above, room}
 
 -- the number that the bytes from `at` to p say
@@ -80,6 +80,17 @@ stands_more g xs at v n p h w goes byte is s =
       says = omega (arith, said_more xs at p (omega arith) w, s.says);
       small = omega (arith, bound_more g h, s.small);
     }
+
+pub cut_more : (g : ℕ) (xs : List ℕ) (at : ℕ) → 1 < g → 128 ≤ get_or xs at 0 → Cut (g - 1) xs (at + 1) → Cut g xs at
+cut_more g xs at h here c = record { short = omega (arith, c.short); goes = goes_more xs at (length xs) here c.goes }
+
+pub wide_more : (g : ℕ) (xs : List ℕ) (at : ℕ) → 1 < g → 128 ≤ get_or xs at 0 → Wide (g - 1) xs (at + 1) → Wide g xs at
+wide_more g xs at h here w = record {
+  p = w.p;
+  reaches = reaches_more g xs at w.p h here w.reaches;
+  full = omega (arith, w.full);
+  above = w.above;
+}
 
 -- what stands, by its first byte
 pub front :

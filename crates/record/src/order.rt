@@ -1,5 +1,5 @@
 // The memory order of a record.
-ghost use Rattle.std.specs.Prelude.{length, MatchResult};
+ghost use Rattle.std.specs.Prelude.{◌≡◌, [], length, MatchResult};
 ghost use Rattle.record.specs.Form.{Takes, tested};
 ghost use Rattle.record.specs.Order.{event_test, order_form};
 
@@ -22,18 +22,18 @@ impl Part<'_> {
     }
 }
 
-// The event codes of the order's section.
-pub(crate) fn read_order(part: Part) -> Result<ArrayVec<u32, EVENTS>, Fault>
+// Reads the event codes of the order's section.
+pub(crate) fn read_order(codes: &mut ArrayVec<u32, EVENTS>, part: Part) -> Result<(), Fault>
+    requires { codes.old.items ≡ [] }
     ensures { MatchResult result
-        (λ codes. (order_form part.entry.bytes.now part.entry.start).is 0 codes.items (length part.entry.bytes.now))
+        (λ _. (order_form part.entry.bytes.now part.entry.start).is 0 codes.new.items (length part.entry.bytes.now))
         (λ e. (order_form part.entry.bytes.now part.entry.start).amiss 0 e) }
 {
-    let mut codes = ArrayVec::new();
     let mut at = 0;
     // `at` goes on by what is read.
     while at < part.bytes.len() {
         let code = part.event(&mut at, codes.len())?;
         codes.push(code);
     }
-    Ok(codes)
+    Ok(())
 }

@@ -23,7 +23,7 @@ pub(crate) struct Reading {
 // A table is a plain number, bounded in each contract: it comes from the loop over all of them.
 impl Reading {
     // Nothing is read yet.
-    fn new(draft: Draft) -> Reading
+    pub(crate) fn new(draft: Draft) -> Reading
         ensures { Kept [] (contents result.draft.tables) result.claims }
     {
         Reading {
@@ -71,13 +71,13 @@ impl Reading {
 
 // Bytes and a place in them come as they are where the whole record is meant; within a section they are a `Part`.
 
-// Reads the sections of all tables from `at` on into the room of the draft, and gives the place after them.
-pub(crate) fn read_tables(draft: Draft, bytes: &[u8], at: usize) -> Result<(Reading, usize), Fault>
+// Reads the sections of all tables from `at` on, and gives the place after them.
+pub(crate) fn read_tables(reading: &mut Reading, bytes: &[u8], at: usize) -> Result<usize, Fault>
+    requires { Kept [] (contents reading.old.draft.tables) reading.old.claims }
     ensures { MatchResult result
-        (λ p. (ts : List (List Item)) × (tables_form bytes.now).is at ts p.1 × Kept ts (contents p.0.draft.tables) p.0.claims)
+        (λ next. (ts : List (List Item)) × (tables_form bytes.now).is at ts next × Kept ts (contents reading.new.draft.tables) reading.new.claims)
         (λ e. (tables_form bytes.now).amiss at e) }
 {
-    let mut reading = Reading::new(draft);
     let mut next = at;
     // A loop, since each section begins where the one before it ended.
     for table in 0..PROCESSORS {
@@ -85,5 +85,5 @@ pub(crate) fn read_tables(draft: Draft, bytes: &[u8], at: usize) -> Result<(Read
         reading.read_table(table, part)?;
         next = after;
     }
-    Ok((reading, next))
+    Ok(next)
 }

@@ -50,10 +50,15 @@ fn read_rule(bytes: &[u8], at: usize) -> Result<(Rule, usize), Fault>
     Ok((rule, next))
 }
 
-// Reads all that the bytes of a record say: its rule, its tables into the room of the draft, and its order.
-fn read_bytes(draft: Draft, bytes: &[u8]) -> Result<(Rule, Reading, ArrayVec<u32, EVENTS>), Fault>
+// Reads all that the bytes of a record say: the rule, and the tables and the order into what is lent, which is too large to hand up.
+fn read_bytes(
+    reading: &mut Reading,
+    codes: &mut ArrayVec<u32, EVENTS>,
+    bytes: &[u8],
+) -> Result<Rule, Fault>
+    requires { (Kept [] (contents reading.old.draft.tables) reading.old.claims) × (codes.old.items ≡ []) }
     ensures { MatchResult result
-        (λ p. Gathered bytes.now p.0 (contents p.1.draft.tables) p.1.claims p.2.items)
+        (λ w. Gathered bytes.now w (contents reading.new.draft.tables) reading.new.claims codes.new.items)
         (λ e. (record_form bytes.now).amiss 0 e) }
 {
     if bytes.len() > LONGEST {
@@ -63,13 +68,13 @@ fn read_bytes(draft: Draft, bytes: &[u8]) -> Result<(Rule, Reading, ArrayVec<u32
         return Err(Fault::MarkMissing);
     }
     let (rule, begin) = read_rule(bytes, MARK.len())?;
-    let (reading, middle) = read_tables(draft, bytes, begin)?;
+    let middle = read_tables(reading, bytes, begin)?;
     let (part, end) = section(bytes, middle)?;
-    let codes = read_order(part)?;
+    read_order(codes, part)?;
     if end < bytes.len() {
         return Err(Fault::BytesLeft(end));
     }
-    Ok((rule, reading, codes))
+    Ok(rule)
 }
 
 // Writes each claim at its place of the sheet.
@@ -112,7 +117,9 @@ pub fn read(
     if sheet.size() < PLACES {
         return Err(Fault::SheetShort(sheet.size()));
     }
-    let (rule, reading, codes) = read_bytes(draft, bytes)?;
+    let mut reading = Reading::new(draft);
+    let mut codes = ArrayVec::new();
+    let rule = read_bytes(&mut reading, &mut codes, bytes)?;
     let count = codes.len();
     if output.len() < count {
         return Err(Fault::OutputShort(count));

@@ -121,3 +121,13 @@ module _ (f : ℕ → ℕ) (o : List ℕ) (i : ℕ) (l : i < length o) where
       ∙ (append_assoc done (event_calls f e) (schedule unit f' rest)
       ∙ (ap (λ (z : List Call). done ++ z) (append_assoc (fill (lacking unit f (e / 2)) (table unit (e / 2))) (drains unit (e / 2) (e % 2)) (schedule unit f' rest))
       ∙ ap (λ (z : List ℕ). done ++ schedule unit f z) (sym (drop_more o i 0 l))))
+
+  -- so there is room for them if there is for all
+  pub room_on :
+      (done all : List Call) (n : ℕ) → done ++ schedule unit f (drop i o) ≡ all → length all ≤ n → length done + length (event_calls f e) ≤ n
+  room_on done all n h b =
+      let f' = up_to unit f (e / 2) in
+      let s = ap length (scheduled_on f' done (λ _. refl) ∙ h) in
+      let a = length-append (done ++ event_calls f e) (schedule unit f' rest) in
+      let d = length-append done (event_calls f e) in
+      omega arith

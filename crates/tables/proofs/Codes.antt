@@ -64,6 +64,9 @@ module _ (z : Size) where
       let r = row_below z (c / 2) in
       record { processor_low = omega arith; processor_high = omega (arith, t); line_low = omega arith; line_high = omega (arith, r) }
 
+  pub event_is : (c : ℕ) → c < codes z → event_of z c ≡ Some (made (line_id z (c / 2)) (side_of c))
+  event_is = event_of_lem z
+
   -- a place is that of its line
   pub place_id : (n : ℕ) → place_of z (line_id z n) ≡ n
   place_id n =

@@ -1,5 +1,5 @@
 -- What one line more keeps.
-use Rattle.std.proofs.Common.{◌≡◌, ℕ, zero, suc, ◌-◌, ◌<◌, ◌≤◌, true, false, List, [], ◌∷◌, ◌++◌, length, Some, sym, refl, ap, ◌∙◌, inl, inr, arith}
+use Rattle.std.proofs.Common.{◌≡◌, ℕ, zero, suc, ◌+◌, ◌-◌, ◌<◌, ◌≤◌, true, false, List, [], ◌∷◌, ◌++◌, length, get_or, Some, None, sym, refl, ap, ◌∙◌, inl, inr, arith}
 use Rattle.std.proofs.lemmas.List.{take-append-le, length_push, take_all}
 use Rattle.std.proofs.lemmas.Bool.{cases_lt}
 use Rattle.tables.specs.declared.line.Line.{Line}
@@ -47,6 +47,9 @@ module _ (ls : List Line) (x : Line) where
         let u : x.barrier ≡ l.barrier = ap (λ (a : Line). a.barrier) t in omega arith
   ]
 
+pub within_more : (ls : List Line) (n : ℕ) → BarriersWithin ls n → BarriersWithin ls (n + 1)
+within_more ls n f k l e = let h = f k l e in omega arith
+
 pub at_before : (ls : List Line) (x : Line) (k : ℕ) → k < length ls → barrier_at (ls ++ x ∷ []) k ≡ barrier_at ls k
 at_before [] x k h = absurd (omega arith)
 at_before (a ∷ ls) x zero h = refl
@@ -89,3 +92,13 @@ reading_row (l ∷ ls) (suc j) = reading_row ls j
 -- whether the line of a number reads, by the line itself
 pub reading_line : (ls : List Line) (k : ℕ) → 0 < k → reading ls k ≡ of_line false line_reads (nth ls (k - 1))
 reading_line ls k p = let q : k ≡ suc (k - 1) = omega arith in ap (λ (m : ℕ). reading ls m) q ∙ reading_row ls (k - 1)
+
+pub nth_past : {X : Type 0} (ls : List X) (k : ℕ) → length ls ≤ k → nth ls k ≡ None
+nth_past [] k h = refl
+nth_past (l ∷ ls) zero h = let y : ⊥ = omega arith in absurd y
+nth_past (l ∷ ls) (suc k) h = nth_past ls k (omega arith)
+
+pub nth_at : {X : Type 0} (ls : List X) (k : ℕ) (d : X) → k < length ls → nth ls k ≡ Some (get_or ls k d)
+nth_at [] k d h = let y : ⊥ = omega arith in absurd y
+nth_at (l ∷ ls) zero d h = refl
+nth_at (l ∷ ls) (suc k) d h = nth_at ls k d (omega arith)

@@ -8,7 +8,7 @@ mod tests {
     use judging::proposal::Proposal;
     use machine::play::play;
     use model::call::Call;
-    use model::verdict::Verdict;
+    use model::verdict::{Shown, Verdict};
     use rules::sheet::Sheet;
     use rules::wait::{Strong, TotalStoreOrder};
     use rules::words::{NumberWords, Origin, OriginWords};
@@ -41,8 +41,7 @@ mod tests {
     // The verdict or the refusal, as text.
     fn told(heap: Global, answer: Result<Verdict, Fault>) -> Result<String, Fail> {
         match answer {
-            Ok(Ok(())) => Ok("passes".to_string(heap)?),
-            Ok(Err(breach)) => Ok(breach.to_string(heap)?),
+            Ok(verdict) => Ok(Shown(&verdict).to_string(heap)?),
             Err(fault) => Ok(fault.to_string(heap)?),
         }
     }

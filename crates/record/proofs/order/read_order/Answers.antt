@@ -4,7 +4,7 @@ use Rattle.record.proofs.Events.{event_few, one_more}
 use Rattle.record.proofs.order.read_order.Goals as goal
 
 pub loop-at-init : goal.loop-at-init
-loop-at-init c = (none c.new-codes.ensures refl, omega arith)
+loop-at-init c = (none c.requires refl, omega arith)
 
 pub push-requires : goal.push-requires
 push-requires c =

@@ -5,7 +5,7 @@ use Rattle.record.specs.Form.{none, more}
 use Rattle.record.proofs.tabled.read_tables.Goals as goal
 
 pub loop-table-init : goal.loop-table-init
-loop-table-init c = ([], none refl refl, refl, c.new-reading.ensures)
+loop-table-init c = ([], none refl refl, refl, c.requires)
 
 pub returns-in_err-part : goal.returns-in_err-part
 returns-in_err-part c =

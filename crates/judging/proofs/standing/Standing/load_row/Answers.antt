@@ -1,4 +1,4 @@
-use Rattle.std.proofs.Common.{◌≡◌, ℕ, ◌+◌, ◌<◌, ◌≤◌, true, false, ◌⊎◌, get_or, sym, inl, inr, arith, rules}
+use Rattle.std.proofs.Common.{◌≡◌, ℕ, ◌+◌, ◌<◌, ◌≤◌, true, false, ◌⊎◌, get_or, sym, refl, inl, inr, arith, rules}
 use Rattle.std.proofs.lemmas.Iterator.{first_from_Range}
 use borrow.Author.Tests.{tests}
 use Rattle.tables.specs.Contents.{contents}
@@ -6,13 +6,19 @@ use Rattle.tables.specs.Size.{unit}
 use Rattle.tables.specs.View.{is_event}
 use Rattle.judging.specs.Standings.{nowhere}
 use Rattle.judging.specs.Tests.{load_bad}
-use Rattle.judging.proofs.Scans.{load_none, load_here, load_not, load_early, load_late}
+use Rattle.judging.proofs.Scans.{load_none, load_ahead, load_here, load_not, load_early, load_late}
 use Rattle.judging.proofs.Lowest.{lowest_from}
 use Rattle.judging.proofs.standing.Standing.load_row.Goals as goal
 
 pub returns-then-not-is_read : goal.returns-then-not-is_read
 returns-then-not-is_read c =
     load_none (contents c.args.self.now.tables.now) c.args.self.now.order.now c.args.e (sym c.if-not-is_read.ensures)
+
+pub returns-then-is_ahead : goal.returns-then-is_ahead
+returns-then-is_ahead c =
+    let s = c.args.self.now in
+    let ahead = c.if-is_ahead.ensures refl in
+    load_ahead (contents s.tables.now) s.order.now c.args.e ahead
 
 pub returns : goal.returns
 returns c =
