@@ -6,7 +6,8 @@ use Rattle.tables.specs.Rows.{Rows}
 use Rattle.tables.specs.View.{line_at, is_read, is_write, is_event}
 use Rattle.rules.specs.Waits.{Waits, waits_at}
 use Rattle.model.proofs.Positions.{place, place_le}
-use Rattle.judging.specs.Standings.{AheadInTable}
+use Rattle.judging.specs.Searches.{ClearBelow}
+use Rattle.judging.specs.Standings.{AheadUpTo}
 use Rattle.judging.specs.Tests.{waits_here, swaps_here, writes_between, load_bad, wait_bad, swap_bad}
 use Rattle.judging.proofs.Locating.{at_place}
 
@@ -42,11 +43,8 @@ module _ (ts : List Rows) (o : List ℕ) (e : ℕ) where
         | inr p ↦ and_right (is_event unit ts f) _ (lt-leb (place o f) (place o e) p)
       ])))
 
-  pub load_ahead : AheadInTable o e → (f : ℕ) → load_bad unit ts o e f ≡ false
-  load_ahead h f = elim (cases_lt e f) [
-    | inl l ↦ elim (cases_lt f ((e / 64 + 1) * 64)) [ inl u ↦ load_not f (inr (h f l u)) | inr u ↦ load_late f u ]
-    | inr l ↦ load_early f l
-  ]
+  pub load_until : (n : ℕ) → AheadUpTo o e n → ClearBelow (load_bad unit ts o e) n
+  load_until n h f u = elim (cases_lt e f) [ inl l ↦ load_not f (inr (h f l u)) | inr l ↦ load_early f l ]
 
   pub swap_none : swaps_here unit ts e ≡ false → (f : ℕ) → swap_bad unit ts o e f ≡ false
   unfolding swap_bad
@@ -128,8 +126,5 @@ module _ (ts : List Rows) (o : List ℕ) (e : ℕ) where
           ])
         ])))
 
-    pub wait_ahead : AheadInTable o e → (f : ℕ) → wait_bad unit ts o w e f ≡ false
-    wait_ahead h f = elim (cases_lt e f) [
-      | inl l ↦ elim (cases_lt f ((e / 64 + 1) * 64)) [ inl u ↦ wait_not f (inr (inl (h f l u))) | inr u ↦ wait_late f u ]
-      | inr l ↦ wait_early f l
-    ]
+    pub wait_until : (n : ℕ) → AheadUpTo o e n → ClearBelow (wait_bad unit ts o w e) n
+    wait_until n h f u = elim (cases_lt e f) [ inl l ↦ wait_not f (inr (inl (h f l u))) | inr l ↦ wait_early f l ]

@@ -1,5 +1,5 @@
 -- What the table of an order's events holds.
-use Rattle.std.specs.Prelude.{◌≡◌, ℕ, ◌+◌, ◌*◌, ◌/◌, ◌<◌, List, length, slice_index, slice_index_or}
+use Rattle.std.specs.Prelude.{◌≡◌, ℕ, ◌<◌, List, length, slice_index, slice_index_or}
 use Rattle.model.proofs.Positions.{place, times}
 use Rattle.judging.specs.declared.standing.Stand.{Stand}
 
@@ -17,6 +17,6 @@ StandsOf o ss =
     (e : ℕ) → e < 256
     → ((slice_index_or ss e nowhere).place ≡ place o e) × ((slice_index_or ss e nowhere).times ≡ times o e)
 
--- every later code of e's table stands after e, or not at all
-abbrev pub AheadInTable : List ℕ → ℕ → Type 0
-AheadInTable o e = (f : ℕ) → e < f → f < (e / 64 + 1) * 64 → place o e < place o f
+-- e stands before every code from the one after it up to n, but for those that do not stand
+abbrev pub AheadUpTo : List ℕ → ℕ → ℕ → Type 0
+AheadUpTo o e n = (f : ℕ) → e < f → f < n → place o e < place o f

@@ -1,9 +1,9 @@
 // Pairs of events of one table that should stand in a sequence and do not: LoadOp and Wait.
-ghost use Rattle.std.specs.Prelude.{◌≡◌, ◌+◌, ◌*◌, ◌/◌, ◌<◌, true};
+ghost use Rattle.std.specs.Prelude.{◌≡◌, ◌+◌, ◌*◌, ◌/◌, ◌<◌, ◌≤◌};
 ghost use Rattle.tables.specs.Contents.{contents};
 ghost use Rattle.tables.specs.Size.{unit};
 ghost use Rattle.judging.specs.Searches.{Lowest, LowestPair};
-ghost use Rattle.judging.specs.Standings.{AheadInTable};
+ghost use Rattle.judging.specs.Standings.{AheadUpTo};
 ghost use Rattle.judging.specs.Tests.{load_bad, wait_bad, waits_here};
 
 use crate::rows::lowest_pair;
@@ -29,15 +29,21 @@ fn is_waiter(tables: &Tables, f: usize) -> bool
 }
 
 impl<'a> Standing<'a> {
-    // Whether all later events of its table stand after the event `e`. It is quick, and enough to pass a row by.
-    fn is_ahead(&self, e: usize) -> bool
+    // The first later code of its table that does not stand after the event `e`, or the first code past the table. A code that
+    // does not stand at all counts as standing later. A search of its own by places alone, and not put into its callers, since
+    // mostly it is the whole search: so its loop stays short.
+    #[inline(never)]
+    fn first_behind(&self, e: usize) -> usize
         requires { e < 256 }
-        ensures { result ≡ true → AheadInTable self.now.order.now e }
+        ensures within { (e < result) × (result ≤ (e / 64 + 1) * 64) }
+        ensures ahead { AheadUpTo self.now.order.now e result }
     {
         let place = self.stands[e].place;
-        self.stands[e + 1..past_table(e)]
-            .iter()
-            .all(|stand| place < stand.place)
+        let past = past_table(e);
+        match (e + 1..past).find(|&f| self.stands[f].place <= place) {
+            Some(f) => f,
+            None => past,
+        }
     }
 
     // The lowest event before which the read `e` should stand, and does not. Only its own table can have one.
@@ -48,11 +54,9 @@ impl<'a> Standing<'a> {
         if !self.tables.is_read(e) {
             return None;
         }
-        if self.is_ahead(e) {
-            return None;
-        }
         let place = self.stands[e].place;
-        (e + 1..past_table(e)).find(|&f| self.stands[f].place <= place && self.tables.is_event(f))
+        (self.first_behind(e)..past_table(e)).find(|&f| self.stands[f].place <= place
+            && self.tables.is_event(f))
     }
 
     // The lowest pair that breaks LoadOp.
@@ -70,11 +74,8 @@ impl<'a> Standing<'a> {
         if !self.tables.is_write(e) {
             return None;
         }
-        if self.is_ahead(e) {
-            return None;
-        }
         let place = self.stands[e].place;
-        (e + 1..past_table(e)).find(|&f| {
+        (self.first_behind(e)..past_table(e)).find(|&f| {
             self.stands[f].place <= place
                 && is_waiter(self.tables, f)
                 && waits(self.tables, rule, e / 2, f / 2)

@@ -64,8 +64,8 @@ impl fmt::Display for Breach {
     }
 }
 
-/// A verdict as it is printed. A type of this crate, since only the crate of a type or of a trait may join them, and both
-/// `Display` and `Result` are std's.
+// A type of its own, since a crate may not write std's `Display` for std's `Result`.
+/// A verdict as it is printed.
 #[derive_where(Clone, Copy)]
 pub struct Shown<'a, T>(pub &'a Verdict<T>);
 

@@ -50,7 +50,8 @@ fn read_rule(bytes: &[u8], at: usize) -> Result<(Rule, usize), Fault>
     Ok((rule, next))
 }
 
-// Reads all that the bytes of a record say: the rule, and the tables and the order into what is lent, which is too large to hand up.
+// Reads all that the bytes of a record say: gives the rule, and leaves the tables and the order in what is lent, since they are
+// large.
 fn read_bytes(
     reading: &mut Reading,
     codes: &mut ArrayVec<u32, EVENTS>,

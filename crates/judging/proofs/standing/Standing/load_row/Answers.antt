@@ -1,4 +1,4 @@
-use Rattle.std.proofs.Common.{◌≡◌, ℕ, ◌+◌, ◌<◌, ◌≤◌, true, false, ◌⊎◌, get_or, sym, refl, inl, inr, arith, rules}
+use Rattle.std.proofs.Common.{◌≡◌, ℕ, ◌+◌, ◌<◌, ◌≤◌, true, false, ◌⊎◌, get_or, sym, inl, inr, arith, rules}
 use Rattle.std.proofs.lemmas.Iterator.{first_from_Range}
 use borrow.Author.Tests.{tests}
 use Rattle.tables.specs.Contents.{contents}
@@ -6,19 +6,13 @@ use Rattle.tables.specs.Size.{unit}
 use Rattle.tables.specs.View.{is_event}
 use Rattle.judging.specs.Standings.{nowhere}
 use Rattle.judging.specs.Tests.{load_bad}
-use Rattle.judging.proofs.Scans.{load_none, load_ahead, load_here, load_not, load_early, load_late}
+use Rattle.judging.proofs.Scans.{load_none, load_until, load_here, load_not, load_late}
 use Rattle.judging.proofs.Lowest.{lowest_from}
 use Rattle.judging.proofs.standing.Standing.load_row.Goals as goal
 
 pub returns-then-not-is_read : goal.returns-then-not-is_read
 returns-then-not-is_read c =
     load_none (contents c.args.self.now.tables.now) c.args.self.now.order.now c.args.e (sym c.if-not-is_read.ensures)
-
-pub returns-then-is_ahead : goal.returns-then-is_ahead
-returns-then-is_ahead c =
-    let s = c.args.self.now in
-    let ahead = c.if-is_ahead.ensures refl in
-    load_ahead (contents s.tables.now) s.order.now c.args.e ahead
 
 pub returns : goal.returns
 returns c =
@@ -31,7 +25,7 @@ returns c =
     let at : ℕ → ℕ = λ f. (get_or s.stands f nowhere).place in
     let Yes : ℕ → Type 0 = λ f. (at f ≤ at e) × (is_event unit ts f ≡ true) in
     let No : ℕ → Type 0 = λ f. (at e < at f) ⊎ (is_event unit ts f ≡ false) in
-    lowest_from (load_bad unit ts o e) (e + 1) c.past_table.result Yes No (λ j h. load_early ts o e j (omega arith))
+    lowest_from (load_bad unit ts o e) c.first_behind.result c.past_table.result Yes No (load_until ts o e c.first_behind.result c.first_behind.ensures.ahead)
     (λ j h. load_late ts o e j (omega arith))
     (λ f l u h. let b = s.stood f (omega arith) in load_here ts o e f (sym c.if-not-is_read.ensures) (omega arith) (omega arith) h.1 (omega arith))
     (λ f l u h. let b = s.stood f (omega arith) in load_not ts o e f (elim h [ inl y ↦ inr (omega arith) | inr y ↦ inl y ]))

@@ -1,4 +1,4 @@
-use Rattle.std.proofs.Common.{◌≡◌, ℕ, ◌+◌, ◌/◌, ◌<◌, ◌≤◌, Bool, true, false, ◌⊎◌, get_or, sym, refl, inl, inr, arith, rules}
+use Rattle.std.proofs.Common.{◌≡◌, ℕ, ◌+◌, ◌/◌, ◌<◌, ◌≤◌, Bool, true, false, ◌⊎◌, get_or, sym, inl, inr, arith, rules}
 use Rattle.std.proofs.lemmas.Iterator.{first_from_Range}
 use borrow.Author.Tests.{tests}
 use Rattle.tables.specs.Contents.{contents}
@@ -7,19 +7,13 @@ use Rattle.tables.specs.View.{line_at}
 use Rattle.rules.specs.Waits.{waits_at}
 use Rattle.judging.specs.Standings.{nowhere}
 use Rattle.judging.specs.Tests.{wait_bad, waits_here}
-use Rattle.judging.proofs.Scans.{wait_none, wait_ahead, wait_here, wait_not, wait_early, wait_late}
+use Rattle.judging.proofs.Scans.{wait_none, wait_until, wait_here, wait_not, wait_late}
 use Rattle.judging.proofs.Lowest.{lowest_from}
 use Rattle.judging.proofs.standing.Standing.wait_row.Goals as goal
 
 pub returns-then-not-is_write : goal.returns-then-not-is_write
 returns-then-not-is_write g c =
     wait_none (contents c.args.self.now.tables.now) c.args.self.now.order.now c.args.e g.R.WaitRule.waits (sym c.if-not-is_write.ensures)
-
-pub returns-then-is_ahead : goal.returns-then-is_ahead
-returns-then-is_ahead g c =
-    let s = c.args.self.now in
-    let ahead = c.if-is_ahead.ensures refl in
-    wait_ahead (contents s.tables.now) s.order.now c.args.e g.R.WaitRule.waits ahead
 
 pub returns : goal.returns
 returns g c =
@@ -34,7 +28,7 @@ returns g c =
     let must : ℕ → Bool = λ f. waits_at w (line_at unit ts (e / 2)) (line_at unit ts (f / 2)) in
     let Yes : ℕ → Type 0 = λ f. (at f ≤ at e) × (waits_here unit ts f ≡ true) × (must f ≡ true) in
     let No : ℕ → Type 0 = λ f. (at e < at f) ⊎ ((waits_here unit ts f ≡ false) ⊎ (must f ≡ false)) in
-    lowest_from (wait_bad unit ts o w e) (e + 1) c.past_table.result Yes No (λ j h. wait_early ts o e w j (omega arith))
+    lowest_from (wait_bad unit ts o w e) c.first_behind.result c.past_table.result Yes No (wait_until ts o e w c.first_behind.result c.first_behind.ensures.ahead)
     (λ j h. wait_late ts o e w j (omega arith))
     (λ f l u h.
     let b = s.stood f (omega arith) in
